@@ -3,6 +3,9 @@ use Rattle.std.specs.Prelude.{Contains, slice_index_or}
 use Rattle.std.proofs.lemmas.Bool.{false≢true}
 use Rattle.std.proofs.lemmas.List.{get_or_default}
 use Rattle.lists.proofs.Membership.{Contains-nil}
+use Rattle.semantics.specs.declared.mode.Mode.{Mode}
+use Rattle.semantics.specs.declared.mode.Mode.TheVariants.{Cf as ConflictFree, Ad as Admissible}
+use Rattle.semantics.specs.Framework.{Af}
 use Rattle.semantics.specs.Frameworks.{Framework, af, aba}
 use Rattle.meaning_atoms.specs.declared.atom.Atom.{Atom}
 use Rattle.meaning_atoms.specs.declared.atom.Atom.TheVariants.{Ad, Co, St}
@@ -10,23 +13,23 @@ use Rattle.meaning_atoms.specs.declared.atom.AtomLit.{AtomLit}
 use Rattle.meaning_atoms.specs.Literals.{affirmed, AsksNothing}
 use Rattle.meaning_atoms.specs.Worlds.{HoldsOf, IsAsk}
 use Rattle.iccma_tasks.specs.declared.task.Semantics.{Semantics}
-use Rattle.iccma_tasks.specs.declared.task.Semantics.TheVariants.{Complete, Grounded, Preferred, Stable, SemiStable}
-use Rattle.iccma_tasks.specs.declared.task.Semantics.TheVariants.{Ideal}
+use Rattle.iccma_tasks.specs.declared.task.Semantics.TheVariants.{Complete, Grounded, Preferred, Stable, Ideal}
 use Rattle.iccma_tasks.specs.declared.task.Kind.{Kind}
 use Rattle.iccma_tasks.specs.declared.task.Kind.TheVariants.{Af as OfAf, Aba as OfAba}
 use Rattle.iccma_tasks.specs.declared.task.Problem.{Problem}
 use Rattle.iccma_tasks.specs.declared.task.Problem.TheVariants.{AllExtensions}
 use Rattle.iccma_tasks.specs.declared.task.Task.{Task}
 use Rattle.iccma_tasks.specs.Tasks.{HasTask}
+use Rattle.certificate_claims.specs.declared.row.Row.{Row}
 use Rattle.certificate_claims.specs.declared.row.Row.TheVariants.{AllTested, AllLargest, AllWidest, Excluded}
 use Rattle.certificate_claims.specs.Acceptance.{NoRangeWithin, Tests}
-use Rattle.certificate_claims.specs.Claims.{claim_of}
+use Rattle.certificate_claims.specs.Claims.{claim_of, claims, mode_atom, widest_semantics}
 use Rattle.certificate_claims.specs.Rights.{IsExtension, SetsRise}
 use Rattle.certificate_claims.specs.SetLiterals.{differs, outside, wider}
 use Rattle.certificate_claims.proofs.ExtensionFacts.{admissible_world, preferred_admissible}
 use Rattle.certificate_claims.proofs.GoalLists.{asks_cons, asks_nil, fails_mapped, meets_cons, meets_nil, plain_mapped}
 use Rattle.certificate_claims.proofs.KindFacts.{complete_admissible, complete_is, complete_round, none_admissible}
-use Rattle.certificate_claims.proofs.KindFacts.{semi_stable_admissible, stable_is}
+use Rattle.certificate_claims.proofs.KindFacts.{stable_is}
 use Rattle.certificate_claims.proofs.SideClauses.{differs_plain, outside_plain, wider_plain}
 use Rattle.oracle_face.specs.Goals.{Refutes}
 use Rattle.oracle_face.specs.Kinds.{is_assumption_based}
@@ -34,7 +37,7 @@ use Rattle.oracle_face.specs.Logs.{IsKept, OracleLog}
 use Rattle.oracle_face.proofs.GrowingLemmas.{Makes}
 use Rattle.oracle_face.proofs.Refuting.{claim_excluded}
 use Rattle.edit_rules.specs.Kinds.{kind_of}
-use Rattle.goal_lists.proofs.GoalKinds.{semi_stable_abstract}
+use Rattle.goal_lists.proofs.GoalKinds.{widest_abstract}
 use Rattle.enumerate_block.specs.cegar_preferred.specs.Largest.{MadeOutside}
 use Rattle.enumerate_block.specs.declared.with_mode.Listed.{Listed}
 use Rattle.enumerate_block.specs.declared.with_mode.Listed.TheVariants.{Whole, TooMany as MoreThanListed}
@@ -45,11 +48,13 @@ use Rattle.enumerate_block.specs.Preferred.{IsAllPreferred, IsAllOrMore as IsPre
 use Rattle.enumerate_block.proofs.PreferredLemmas.{none_within}
 use Rattle.enumerate_block.specs.declared.ranges.Ranged.{Ranged}
 use Rattle.enumerate_block.specs.declared.ranges.Ranged.TheVariants.{Whole as WholeRanged, TooMany as MoreThanRanged}
-use Rattle.enumerate_block.specs.Ranges.{IsAllSemiStable, IsAllOrMore as IsRangedList, IsShownWidest, MadeForRanges}
+use Rattle.enumerate_block.specs.Ranges.{AreRefuted, IsAllWidest, IsAllOrMore as IsRangedList, IsShownWidest}
+use Rattle.enumerate_block.specs.Ranges.{MadeForRanges}
 use Rattle.enumerate_block.proofs.RangeLemmas.{no_range_within}
 use Rattle.enumerate_block.proofs.StepLemmas.{refuted_first, refuted_none}
+use Rattle.enumerate_block.proofs.WidthLemmas.{widest_has_mode}
 use Rattle.enumerate_block.specs.Extensions.{AreExtensions, IsListOf, IsListTask, IsModeOf, IsShownOne, MadeForAll}
-use Rattle.enumerate_block.specs.Extensions.{asked_all, with_step, with_steps}
+use Rattle.enumerate_block.specs.Extensions.{asked_all, row_all, with_step, with_steps}
 use Rattle.enumerate_block.proofs.OneSet.{largest_shown, mode_shown, widest_shown}
 
 -- Lists of all extensions by each semantics.
@@ -104,21 +109,14 @@ preferred_tests f sets each rise = record {
   each_set = λ k lt. absurd (omega arith);
 }
 
--- of two semi-stable sets none has its range in the other's, by cases on the kind: abstract frameworks alone are asked
--- for them
-semi_stable_order : (f : Framework) (sets : List (List ℕ))
-    → ((e : List ℕ) → Contains sets e → IsExtension f SemiStable e) → NoRangeWithin f sets
-semi_stable_order (af f) sets each = no_range_within f sets each
-semi_stable_order (aba f) sets each = tt
-
-semi_stable_tests : (f : Framework) (sets : List (List ℕ))
-    → ((e : List ℕ) → Contains sets e → IsExtension f SemiStable e) → SetsRise sets
-    → Tests f (asked_all SemiStable) (AllWidest sets) sets []
-semi_stable_tests f sets each rise = record {
+widest_tests : (mode : Mode) (f : Af) (sets : List (List ℕ))
+    → ((e : List ℕ) → Contains sets e → IsExtension (af f) (widest_semantics mode) e) → SetsRise sets
+    → Tests (af f) (asked_all (widest_semantics mode)) (AllWidest mode sets) sets []
+widest_tests mode f sets each rise = record {
   shape = tt;
-  witnesses = λ k lt. semi_stable_admissible f (slice_index_or sets k [])
+  witnesses = λ k lt. widest_has_mode mode (af f) (slice_index_or sets k [])
       (each (slice_index_or sets k []) (index_there sets k lt));
-  order = (rise, semi_stable_order f sets each);
+  order = (rise, no_range_within mode f sets each);
   grounded = tt;
   count = refl;
   each_set = λ k lt. absurd (omega arith);
@@ -196,20 +194,40 @@ preferred_list f log limit (e ∷ more) step kept h = record {
   refuted = refuted_first f log _ step [] [] h.refuted (refuted_none f log);
 }
 
-semi_stable_list : (f : Framework) (log : OracleLog) (limit : ℕ) (sets : List (List ℕ)) (steps : List ℕ)
-    → is_assumption_based f ≡ false → IsKept f log → IsAllSemiStable f log limit sets steps
-    → AreExtensions f log SemiStable limit sets steps
-semi_stable_list (aba f) log limit sets steps kind kept h = absurd (false≢true (sym kind))
-semi_stable_list (af f) log limit [] steps kind kept h =
-    absurd (not_refuted (af f) log Ad (wider (af f)) [] (slice_index_or steps 0 0) kept (λ x. x) (wider_plain (af f))
-    (h.refuted.each 0 (omega (arith, h.refuted.number))) (none_admissible (af f)) (none_admissible (af f)))
-semi_stable_list (af f) log limit (e ∷ more) steps kind kept h = record {
-  all = record { each = h.each; all = h.all; rise = h.rise };
-  differ = they_differ (e ∷ more) h.rise h.one_form;
-  within = h.within;
-  tests = semi_stable_tests (af f) (e ∷ more) h.each h.rise;
-  refuted = h.refuted;
-}
+-- the empty set has each mode
+none_of_mode : (mode : Mode) (f : Af) → HoldsOf (af f) [] (mode_atom mode)
+none_of_mode ConflictFree f = (none_admissible (af f)).conflict_free
+none_of_mode Admissible f = none_admissible (af f)
+
+mode_asks_nothing : (mode : Mode) → IsAsk (mode_atom mode) → ⊥
+mode_asks_nothing ConflictFree ask = ask
+mode_asks_nothing Admissible ask = ask
+
+-- the row of all sets with widest ranges
+widest_row : (mode : Mode) (f : Af) (e : List ℕ) (more : List (List ℕ))
+    → row_all (af f) (widest_semantics mode) (e ∷ more) ≡ AllWidest mode (e ∷ more)
+widest_row ConflictFree f e more = refl
+widest_row Admissible f e more = refl
+
+widest_list : (f : Framework) (log : OracleLog) (mode : Mode) (limit : ℕ) (sets : List (List ℕ)) (steps : List ℕ)
+    → is_assumption_based f ≡ false → IsKept f log → IsAllWidest f log mode limit sets steps
+    → AreExtensions f log (widest_semantics mode) limit sets steps
+widest_list (aba f) log mode limit sets steps kind kept h = absurd (false≢true (sym kind))
+widest_list (af f) log mode limit [] steps kind kept h =
+    absurd (not_refuted (af f) log (mode_atom mode) (wider (af f)) [] (slice_index_or steps 0 0) kept
+    (mode_asks_nothing mode) (wider_plain (af f)) (h.refuted.each 0 (omega (arith, h.refuted.number)))
+    (none_admissible (af f)) (none_of_mode mode f))
+widest_list (af f) log mode limit (e ∷ more) steps kind kept h =
+    let asked = asked_all (widest_semantics mode) in
+    let same = sym (widest_row mode f e more) in
+    record {
+      all = record { each = h.each; all = h.all; rise = h.rise };
+      differ = they_differ (e ∷ more) h.rise h.one_form;
+      within = h.within;
+      tests = subst (λ (row : Row). Tests (af f) asked row (e ∷ more) []) same
+          (widest_tests mode f (e ∷ more) h.each h.rise);
+      refuted = subst (λ (row : Row). AreRefuted (af f) log (claims (af f) row []) steps) same h.refuted;
+    }
 
 -- ---- lists, or more than the limit
 
@@ -253,17 +271,18 @@ pub is_largest : (f g : Framework) (log : OracleLog) (limit : ℕ) (listed : Lis
 is_largest f g log limit listed same kept h =
     largest f log limit (subst (λ (x : Framework). IsKept x log) same kept) listed h
 
-widest : (f : Framework) (log : OracleLog) (limit : ℕ) → is_assumption_based f ≡ false → IsKept f log
-    → (ranged : Ranged)
-    → IsRangedList f log limit ranged → IsListOf f log SemiStable limit (with_steps ranged)
-widest f log limit kind kept (WholeRanged sets steps) h = semi_stable_list f log limit sets.items steps kind kept h
-widest f log limit kind kept MoreThanRanged h =
-    more_as (IsShownWidest f log) (IsShownOne f log SemiStable) limit (widest_shown f log kind) h
+widest : (f : Framework) (log : OracleLog) (mode : Mode) (limit : ℕ) → is_assumption_based f ≡ false → IsKept f log
+    → (ranged : Ranged) → IsRangedList f log mode limit ranged
+    → IsListOf f log (widest_semantics mode) limit (with_steps ranged)
+widest f log mode limit kind kept (WholeRanged sets steps) h = widest_list f log mode limit sets.items steps kind kept h
+widest f log mode limit kind kept MoreThanRanged h =
+    more_as (IsShownWidest f log mode) (IsShownOne f log (widest_semantics mode)) limit (widest_shown f log mode kind) h
 
-pub is_widest : (f g : Framework) (log : OracleLog) (limit : ℕ) (ranged : Ranged) → is_assumption_based f ≡ false
-    → g ≡ f → IsKept g log → IsRangedList f log limit ranged → IsListOf f log SemiStable limit (with_steps ranged)
-is_widest f g log limit ranged kind same kept h =
-    widest f log limit kind (subst (λ (x : Framework). IsKept x log) same kept) ranged h
+pub is_widest : (f g : Framework) (log : OracleLog) (mode : Mode) (limit : ℕ) (ranged : Ranged)
+    → is_assumption_based f ≡ false → g ≡ f → IsKept g log → IsRangedList f log mode limit ranged
+    → IsListOf f log (widest_semantics mode) limit (with_steps ranged)
+is_widest f g log mode limit ranged kind same kept h =
+    widest f log mode limit kind (subst (λ (x : Framework). IsKept x log) same kept) ranged h
 
 -- ---- tasks
 
@@ -273,10 +292,11 @@ has_task f task semantics h is =
     subst (HasTask (kind_of f) AllExtensions) is
     (subst (λ (p : Problem). HasTask (kind_of f) p task.semantics) h.problem h.has)
 
--- frameworks that are asked for all semi-stable sets are abstract
-pub list_abstract : (f : Framework) (task : Task) → IsListTask f task → task.semantics ≡ SemiStable
-    → is_assumption_based f ≡ false
-list_abstract f task h is = semi_stable_abstract f AllExtensions (has_task f task SemiStable h is)
+-- frameworks that are asked for all sets with widest ranges are abstract
+pub list_abstract : (mode : Mode) (f : Framework) (task : Task) → IsListTask f task
+    → task.semantics ≡ widest_semantics mode → is_assumption_based f ≡ false
+list_abstract mode f task h is =
+    widest_abstract mode f AllExtensions (has_task f task (widest_semantics mode) h is)
 
 -- frameworks of no kind are asked for all grounded or all ideal sets
 grounded_is_one : (kind : Kind) → HasTask kind AllExtensions Grounded → ⊥
@@ -296,7 +316,7 @@ no_ideal f task h is = ideal_is_one (kind_of f) (has_task f task Ideal h is)
 -- ---- what calls leave
 
 pub made_differs : (f : Framework) (semantics : Semantics) (mode : Atom) → IsModeOf semantics mode
-    → Makes (MadeDiffers f) (MadeForAll f semantics)
+    → Makes (MadeDiffers f mode) (MadeForAll f semantics)
 made_differs f Complete Co ok literals set h = (h.1, h.0)
 made_differs f Stable St ok literals set h = (h.1, h.0)
 made_differs f _ _ ok literals set h = absurd ok
@@ -304,8 +324,9 @@ made_differs f _ _ ok literals set h = absurd ok
 pub made_outside : (f : Framework) → Makes (MadeOutside f) (MadeForAll f Preferred)
 made_outside f literals set h = (h.1, h.0)
 
-pub made_ranges : (f : Framework) → Makes (MadeForRanges f) (MadeForAll f SemiStable)
-made_ranges f literals set h = h
+pub made_ranges : (mode : Mode) (f : Framework) → Makes (MadeForRanges f mode) (MadeForAll f (widest_semantics mode))
+made_ranges ConflictFree f literals set h = h
+made_ranges Admissible f literals set h = h
 
 -- ---- modes
 

@@ -6,18 +6,21 @@ use Rattle.lists.specs.Members.{IsWithin}
 use Rattle.lists.proofs.Membership.{Contains-nil, Contains-head, Contains-tail}
 use Rattle.plain_lits.specs.declared.halt.Halt.{Halt}
 use Rattle.plain_lits.proofs.HintCheckLemmas.{Contains-mapped}
+use Rattle.semantics.specs.declared.mode.Mode.{Mode}
+use Rattle.semantics.specs.declared.mode.Mode.TheVariants.{Cf as ConflictFree, Ad as Admissible}
 use Rattle.semantics.specs.Frameworks.{Framework, IsNumbered}
 use Rattle.semantics.specs.Laws.{HasSameMembers}
 use Rattle.meaning_atoms.specs.declared.atom.Atom.{Atom}
-use Rattle.meaning_atoms.specs.declared.atom.Atom.TheVariants.{Member, Range, Ad, Co, St}
+use Rattle.meaning_atoms.specs.declared.atom.Atom.TheVariants.{Member, Range, Cf, Ad, Co, St}
 use Rattle.meaning_atoms.specs.declared.atom.AtomLit.{AtomLit}
 use Rattle.meaning_atoms.specs.Literals.{affirmed, denied, negated}
 use Rattle.meaning_atoms.specs.Worlds.{HoldsOf, IsAsk}
+use Rattle.certificate_claims.specs.Claims.{mode_atom}
 use Rattle.certificate_claims.specs.Refutations.{IsPlain, MeetsGoals}
 use Rattle.certificate_claims.specs.SetLiterals.{are_ranged, differs, has, members}
-use Rattle.certificate_claims.proofs.ExtensionFacts.{admissible_world}
 use Rattle.certificate_claims.proofs.GoalLists.{asks_cons, fails_mapped, meets_cons, meets_mapped, plain_mapped}
-use Rattle.certificate_claims.proofs.KindFacts.{complete_admissible, stable_admissible}
+use Rattle.certificate_claims.proofs.KindFacts.{complete_admissible, members_world, stable_admissible}
+use Rattle.certificate_claims.proofs.Modes.{mode_members as moded_members}
 use Rattle.certificate_claims.proofs.SideClauses.{differs_plain, ranged_plain, same_where_false}
 use Rattle.oracle_face.specs.declared.face.Found.{Found}
 use Rattle.oracle_face.specs.declared.face.Found.TheVariants.{Set, Refuted}
@@ -34,34 +37,52 @@ use Rattle.goal_lists.proofs.Calls.{admissible_members, found_mode, found_range}
 use Rattle.goal_lists.proofs.Measures.{fewer_left, kept_is_set, left_open, part_from, part_gives, same_as_kept}
 use Rattle.goal_lists.proofs.SideLemmas.{HasWanted, asks_kept, asks_more, asks_none, asks_refuted, asks_speak, asks_true}
 use Rattle.enumerate_block.specs.declared.with_mode.Listing.{Listing}
-use Rattle.enumerate_block.specs.Modes.{IsAllOf, IsAmong, IsFurtherOf, IsListing, IsListMode, MadeDiffers, Records, mode_claim}
+use Rattle.enumerate_block.specs.Modes.{IsAllOf, IsAmong, IsFurtherOf, IsListing, IsListMode, MadeDiffers, Records}
+use Rattle.enumerate_block.specs.Modes.{base_mode, mode_claim}
 use Rattle.enumerate_block.specs.Ordered.{GainsInOrder, HasMore}
 use Rattle.enumerate_block.proofs.OrderedLemmas.{each_more, one_form_more, they_differ}
 
 -- ---- modes
 
 pub is_mode : (mode : Atom) → IsListMode mode → IsMode mode
+is_mode Cf h = tt
 is_mode Ad h = tt
 is_mode Co h = tt
 is_mode St h = tt
 is_mode _ h = absurd h
 
 mode_asks_nothing : (mode : Atom) → IsListMode mode → IsAsk mode → ⊥
+mode_asks_nothing Cf h ask = ask
 mode_asks_nothing Ad h ask = ask
 mode_asks_nothing Co h ask = ask
 mode_asks_nothing St h ask = ask
 mode_asks_nothing _ h ask = absurd h
 
-pub mode_admissible : (f : Framework) (e : List ℕ) (mode : Atom) → IsNumbered f → IsListMode mode → HoldsOf f e mode
-    → HoldsOf f e Ad
-mode_admissible f e Ad ok listed h = h
-mode_admissible f e Co ok listed h = complete_admissible f e h
-mode_admissible f e St ok listed h = stable_admissible f e ok h
-mode_admissible f e _ ok listed h = absurd listed
+pub mode_base : (f : Framework) (e : List ℕ) (mode : Atom) → IsNumbered f → IsListMode mode → HoldsOf f e mode
+    → HoldsOf f e (base_mode mode)
+mode_base f e Cf ok listed h = h
+mode_base f e Ad ok listed h = h
+mode_base f e Co ok listed h = complete_admissible f e h
+mode_base f e St ok listed h = stable_admissible f e ok h
+mode_base f e _ ok listed h = absurd listed
+
+pub base_members : (f : Framework) (e : List ℕ) (mode : Atom) → HoldsOf f e (base_mode mode) → IsWithin e (members f)
+base_members f e Cf h = moded_members ConflictFree f e h
+base_members f e _ h = admissible_members f e h
+
+-- conflict-free and admissible sets are listed, and are made side clauses from
+pub is_listed : (mode : Mode) → IsListMode (mode_atom mode)
+is_listed ConflictFree = tt
+is_listed Admissible = tt
+
+pub base_holds : (mode : Mode) (f : Framework) (e : List ℕ) → HoldsOf f e (base_mode (mode_atom mode))
+    → HoldsOf f e (mode_atom mode)
+base_holds ConflictFree f e h = h
+base_holds Admissible f e h = h
 
 pub mode_members : (f : Framework) (e : List ℕ) (mode : Atom) → IsNumbered f → IsListMode mode → HoldsOf f e mode
     → IsWithin e (members f)
-mode_members f e mode ok listed h = admissible_members f e (mode_admissible f e mode ok listed h)
+mode_members f e mode ok listed h = base_members f e mode (mode_base f e mode ok listed h)
 
 -- ---- the side clause that a set differs
 
@@ -101,12 +122,16 @@ pub differs_is_side : (f : Framework) (e : List ℕ) (side : List AtomLit) → I
     → side ≡ differs f e → IsSide side
 differs_is_side f e side ok live is = subst IsSide (sym is) (differs_side f e ok live)
 
-pub makes_differs : (f : Framework) (e : List ℕ) (side : List AtomLit) → HoldsOf f e Ad → side ≡ differs f e
-    → Makes (OnlySide side e) (MadeDiffers f)
-makes_differs f e side ok is literals set h = (
+pub makes_differs : (f : Framework) (mode : Atom) (e : List ℕ) (side : List AtomLit) → HoldsOf f e (base_mode mode)
+    → side ≡ differs f e → Makes (OnlySide side e) (MadeDiffers f mode)
+makes_differs f mode e side ok is literals set h = (
   subst (λ (clause : List AtomLit). IsSameClause literals clause) (is ∙ ap (differs f) (sym h.1)) h.0,
-  subst (λ (s : List ℕ). HoldsOf f s Ad) (sym h.1) ok,
+  subst (λ (s : List ℕ). HoldsOf f s (base_mode mode)) (sym h.1) ok,
 )
+
+pub makes_as : (f : Framework) (atom : Atom) (mode : Mode) → atom ≡ mode_atom mode
+    → Makes (MadeDiffers f atom) (MadeDiffers f (mode_atom mode))
+makes_as f atom mode is literals set h = subst (λ (a : Atom). MadeDiffers f a literals set) is h
 
 -- ---- lists
 
@@ -240,13 +265,13 @@ pub all_listed : (f : Framework) (log : OracleLog) (mode : Atom) (range : List �
 all_listed f log mode range limit listing step kept listed h refuted room = record {
   each = h.each;
   all = λ e is.
-      let ok = mode_admissible f e mode kept.numbered listed is.has_mode in
+      let live = mode_members f e mode kept.numbered listed is.has_mode in
       let sets = listing.sets.items in
       let r = fails_mapped f (affirmed mode ∷ are_ranged range) (differs f) sets
       (claim_excluded f log (mode_claim f mode range sets) step kept.form (mode_plain f mode range sets listed) refuted)
-      e (admissible_world f e kept.numbered ok)
+      e (members_world f e kept.numbered live)
       (meets_cons f e (affirmed mode) (are_ranged range) is.has_mode (meets_ranged f e range is.ranged)) in
-      record { set = r.0; member = r.1; same = same_where_false f r.0 e (admissible_members f e ok) r.2 };
+      record { set = r.0; member = r.1; same = same_where_false f r.0 e live r.2 };
   rise = h.rise;
   one_form = h.one_form;
   within = room;

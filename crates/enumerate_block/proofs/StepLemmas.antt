@@ -1,4 +1,4 @@
--- The steps that refute the claims of a list of semi-stable sets.
+-- The steps that refute the claims of a list of sets with widest ranges.
 use Rattle.std.proofs.Common.{◌≡◌, ⊎_elim, ℕ, zero, suc, ◌+◌, ◌<◌, ◌≤◌, true, false, not, List, [], ◌∷◌, ◌++◌, length, take, map, filter, refl, ap, sym, subst, ◌∙◌, arith}
 use Rattle.std.specs.Prelude.{Contains, slice_index_or, Option, Some, None}
 use Rattle.std.proofs.lemmas.Bool.{and_from, and_parts, cases_Bool, cases_eq, cases_lt, false_from_ne_true, not_from_false}
@@ -6,6 +6,7 @@ use Rattle.std.proofs.lemmas.List.{append-nil, get_or_append_left, get_or_defaul
 use Rattle.lists.proofs.Filters.{Contains-filter}
 use Rattle.lists.proofs.ListTests.{any_from, any_gives}
 use Rattle.lists.proofs.Membership.{Contains-nil, Contains-head, Contains-tail, Contains-cons_cases}
+use Rattle.semantics.specs.declared.mode.Mode.{Mode}
 use Rattle.semantics.specs.Frameworks.{Framework}
 use Rattle.certificate_claims.specs.Acceptance.{no_claim}
 use Rattle.certificate_claims.specs.Claims.{first_ranged, has_ranged, range_listed}
@@ -51,7 +52,7 @@ refuted_member f log list steps claim h c =
           (get_or_default list c.0 no_claim claim lt ∙ c.2) (h.each c.0 fits),
     )
 
-refuted_last : (f : Framework) (log : OracleLog) (claim : Claim) (step : ℕ) (list : List Claim) (steps : List ℕ)
+pub refuted_last : (f : Framework) (log : OracleLog) (claim : Claim) (step : ℕ) (list : List Claim) (steps : List ℕ)
     → Refutes f log claim step → AreRefuted f log list steps
     → AreRefuted f log (list ++ claim ∷ []) (steps ++ step ∷ [])
 refuted_last f log claim step list steps h before =
@@ -135,84 +136,90 @@ front_index sets n s within c =
     let low : c.0 < n = omega arith in
     (c.0, low, sym (get_or-take n sets c.0 [] low) ∙ (get_or_default (take n sets) c.0 [] s lt ∙ c.2))
 
--- the claims that a set is the last to be listed with its range, for the first sets of a front
-abbrev front_claims : Framework → List (List ℕ) → ℕ → List Claim
-front_claims f sets n = map (range_listed f sets) (first_ranged f (take n sets))
-
 next_front : (f : Framework) (sets : List (List ℕ)) (n : ℕ) (s : List ℕ) → n < length sets
     → slice_index_or sets n [] ≡ s
     → take (n + 1) sets ≡ take n sets ++ s ∷ []
 next_front f sets n s lt is = take_more sets n [] lt ∙ ap (λ (x : List ℕ). take n sets ++ x ∷ []) is
 
-mark_next : (f : Framework) (log : OracleLog) (sets : List (List ℕ)) (marks : List (Option ℕ)) (n : ℕ) (s : List ℕ)
-    → SetsRise sets → n < length sets → slice_index_or sets n [] ≡ s → (mark : Option ℕ) → IsMark f log sets s mark
-    → AreRefuted f log (front_claims f sets n) (marked_steps (take n marks))
-    → AreRefuted f log (front_claims f sets (n + 1)) (marked_steps (take n marks) ++ marked_steps (mark ∷ []))
-mark_next f log sets marks n s rise lt is None none before =
-    let t = none.0 in
-    let at = none.1 in
-    let s_there : slice_index_or sets at.0 [] ≡ t = get_or_default sets at.0 [] t at.1 ∙ at.2 in
-    let low : at.0 < n = stands_before sets at.0 n rise at.1 lt
-    (subst (λ (x : List ℕ). Precedes x (slice_index_or sets n [])) (sym s_there)
-    (subst (λ (x : List ℕ). Precedes t x) (sym is) none.3)) in
-    let front : Contains (take n sets) t = subst (λ (x : List ℕ). Contains (take n sets) x) s_there
-    (in_front sets n at.0 (omega arith) low) in
-    let firsts = first_ranged f (take n sets) in
-    let e = first_of f (take n sets) t front in
-    let had : has_ranged f firsts s ≡ true =
-    any_from (λ x. same_range f x s) firsts e.0 e.1 (same_trans f e.0 t s e.2 none.2) in
-    let same : first_ranged f (take (n + 1) sets) ≡ firsts =
-    ap (first_ranged f) (next_front f sets n s lt is)
-    ∙ (firsts_more f (take n sets) s ∙ chosen (has_ranged f firsts s) firsts (firsts ++ s ∷ []) had) in
-    subst (λ (xs : List ℕ). AreRefuted f log (front_claims f sets (n + 1)) xs)
-    (sym (append-nil (marked_steps (take n marks))))
-    (subst (λ (xs : List (List ℕ)). AreRefuted f log (map (range_listed f sets) xs) (marked_steps (take n marks)))
-    (sym same) before)
-mark_next f log sets marks n s rise lt is (Some step) some_step before =
-    let firsts = first_ranged f (take n sets) in
-    let new : has_ranged f firsts s ≡ false = false_from_ne_true (has_ranged f firsts s) (λ h.
-    let m = any_gives (λ x. same_range f x s) firsts h in
-    let j = front_index sets n m.0 (omega arith) (firsts_within f (take n sets) m.0 m.1) in
-    let low = j.1 in
-    let there : Contains sets m.0 =
-    (j.0, omega arith, get_or_default sets j.0 m.0 [] (omega arith) ∙ j.2) in
-    some_step.1 m.0 there m.2
-    (subst (λ (x : List ℕ). Precedes x s) j.2
-    (subst (λ (x : List ℕ). Precedes (slice_index_or sets j.0 []) x) is (rise j.0 n low lt)))) in
-    let more : first_ranged f (take (n + 1) sets) ≡ firsts ++ s ∷ [] =
-    ap (first_ranged f) (next_front f sets n s lt is)
-    ∙ (firsts_more f (take n sets) s ∙ passed (has_ranged f firsts s) firsts (firsts ++ s ∷ []) new) in
-    let claims_are : front_claims f sets (n + 1) ≡ front_claims f sets n ++ range_listed f sets s ∷ [] =
-    ap (map (range_listed f sets)) more ∙ map-append (range_listed f sets) firsts (s ∷ []) in
-    subst (λ (xs : List Claim). AreRefuted f log xs (marked_steps (take n marks) ++ step ∷ [])) (sym claims_are)
-    (refuted_last f log (range_listed f sets s) step (front_claims f sets n) (marked_steps (take n marks)) some_step.0
-    before)
+-- the claims that a set is the last to be listed with its range, for the first sets of a front
+abbrev front_claims : Mode → Framework → List (List ℕ) → ℕ → List Claim
+front_claims mode f sets n = map (range_listed f mode sets) (first_ranged f (take n sets))
 
-fronts_refuted : (f : Framework) (log : OracleLog) (sets : List (List ℕ)) (marks : List (Option ℕ)) → SetsRise sets
-    → length marks ≡ length sets
-    → ((s : List ℕ) (mark : Option ℕ) → IsPaired sets marks s mark → IsMark f log sets s mark)
-    → (n : ℕ) → n ≤ length sets → AreRefuted f log (front_claims f sets n) (marked_steps (take n marks))
-fronts_refuted f log sets marks rise same are zero within = refuted_none f log
-fronts_refuted f log sets marks rise same are (suc n) within =
-    let before = fronts_refuted f log sets marks rise same are n (omega arith) in
-    let s = slice_index_or sets n [] in
-    let mark = slice_index_or marks n None in
-    let lt : n < length sets = omega arith in
-    let up : n + 1 ≡ suc n = omega arith in
-    let steps : marked_steps (take (n + 1) marks) ≡ marked_steps (take n marks) ++ marked_steps (mark ∷ []) =
-    ap marked_steps (take_more marks n None (omega arith)) ∙ marked_append (take n marks) mark in
-    subst (λ (k : ℕ). AreRefuted f log (front_claims f sets k) (marked_steps (take k marks))) up
-    (subst (λ (xs : List ℕ). AreRefuted f log (front_claims f sets (n + 1)) xs) (sym steps)
-    (mark_next f log sets marks n s rise lt refl mark (are s mark (n, lt, refl, refl)) before))
+module _ (mode : Mode) where
+  mark_next : (f : Framework) (log : OracleLog) (sets : List (List ℕ)) (marks : List (Option ℕ)) (n : ℕ) (s : List ℕ)
+      → SetsRise sets → n < length sets → slice_index_or sets n [] ≡ s → (mark : Option ℕ)
+      → IsMark f log mode sets s mark
+      → AreRefuted f log (front_claims mode f sets n) (marked_steps (take n marks))
+      → AreRefuted f log (front_claims mode f sets (n + 1)) (marked_steps (take n marks) ++ marked_steps (mark ∷ []))
+  mark_next f log sets marks n s rise lt is None none before =
+      let t = none.0 in
+      let at = none.1 in
+      let s_there : slice_index_or sets at.0 [] ≡ t = get_or_default sets at.0 [] t at.1 ∙ at.2 in
+      let low : at.0 < n = stands_before sets at.0 n rise at.1 lt
+      (subst (λ (x : List ℕ). Precedes x (slice_index_or sets n [])) (sym s_there)
+      (subst (λ (x : List ℕ). Precedes t x) (sym is) none.3)) in
+      let front : Contains (take n sets) t = subst (λ (x : List ℕ). Contains (take n sets) x) s_there
+      (in_front sets n at.0 (omega arith) low) in
+      let firsts = first_ranged f (take n sets) in
+      let e = first_of f (take n sets) t front in
+      let had : has_ranged f firsts s ≡ true =
+      any_from (λ x. same_range f x s) firsts e.0 e.1 (same_trans f e.0 t s e.2 none.2) in
+      let same : first_ranged f (take (n + 1) sets) ≡ firsts =
+      ap (first_ranged f) (next_front f sets n s lt is)
+      ∙ (firsts_more f (take n sets) s ∙ chosen (has_ranged f firsts s) firsts (firsts ++ s ∷ []) had) in
+      subst (λ (xs : List ℕ). AreRefuted f log (front_claims mode f sets (n + 1)) xs)
+      (sym (append-nil (marked_steps (take n marks))))
+      (subst (λ (xs : List (List ℕ)). AreRefuted f log (map (range_listed f mode sets) xs) (marked_steps (take n
+      marks)))
+      (sym same) before)
+  mark_next f log sets marks n s rise lt is (Some step) some_step before =
+      let firsts = first_ranged f (take n sets) in
+      let new : has_ranged f firsts s ≡ false = false_from_ne_true (has_ranged f firsts s) (λ h.
+      let m = any_gives (λ x. same_range f x s) firsts h in
+      let j = front_index sets n m.0 (omega arith) (firsts_within f (take n sets) m.0 m.1) in
+      let low = j.1 in
+      let there : Contains sets m.0 =
+      (j.0, omega arith, get_or_default sets j.0 m.0 [] (omega arith) ∙ j.2) in
+      some_step.1 m.0 there m.2
+      (subst (λ (x : List ℕ). Precedes x s) j.2
+      (subst (λ (x : List ℕ). Precedes (slice_index_or sets j.0 []) x) is (rise j.0 n low lt)))) in
+      let more : first_ranged f (take (n + 1) sets) ≡ firsts ++ s ∷ [] =
+      ap (first_ranged f) (next_front f sets n s lt is)
+      ∙ (firsts_more f (take n sets) s ∙ passed (has_ranged f firsts s) firsts (firsts ++ s ∷ []) new) in
+      let claims_are : front_claims mode f sets (n + 1) ≡ front_claims mode f sets n ++ range_listed f mode sets s ∷ []
+      =
+      ap (map (range_listed f mode sets)) more ∙ map-append (range_listed f mode sets) firsts (s ∷ []) in
+      subst (λ (xs : List Claim). AreRefuted f log xs (marked_steps (take n marks) ++ step ∷ [])) (sym claims_are)
+      (refuted_last f log (range_listed f mode sets s) step (front_claims mode f sets n) (marked_steps (take n marks))
+      some_step.0
+      before)
 
-pub firsts_refuted : (f : Framework) (log : OracleLog) (sets : List (List ℕ)) (marks : List (Option ℕ)) → SetsRise sets
-    → length marks ≡ length sets
-    → ((s : List ℕ) (mark : Option ℕ) → IsPaired sets marks s mark → IsMark f log sets s mark)
-    → AreRefuted f log (map (range_listed f sets) (first_ranged f sets)) (marked_steps marks)
-firsts_refuted f log sets marks rise same are =
-    let h = fronts_refuted f log sets marks rise same are (length sets) (omega arith) in
-    subst (λ (xs : List (List ℕ)). AreRefuted f log (map (range_listed f sets) (first_ranged f xs)) (marked_steps
-    marks))
-    (take_all (length sets) sets (omega arith))
-    (subst (λ (xs : List (Option ℕ)). AreRefuted f log (front_claims f sets (length sets)) (marked_steps xs))
-    (take_all (length sets) marks (omega arith)) h)
+  fronts_refuted : (f : Framework) (log : OracleLog) (sets : List (List ℕ)) (marks : List (Option ℕ)) → SetsRise sets
+      → length marks ≡ length sets
+      → ((s : List ℕ) (mark : Option ℕ) → IsPaired sets marks s mark → IsMark f log mode sets s mark)
+      → (n : ℕ) → n ≤ length sets → AreRefuted f log (front_claims mode f sets n) (marked_steps (take n marks))
+  fronts_refuted f log sets marks rise same are zero within = refuted_none f log
+  fronts_refuted f log sets marks rise same are (suc n) within =
+      let before = fronts_refuted f log sets marks rise same are n (omega arith) in
+      let s = slice_index_or sets n [] in
+      let mark = slice_index_or marks n None in
+      let lt : n < length sets = omega arith in
+      let up : n + 1 ≡ suc n = omega arith in
+      let steps : marked_steps (take (n + 1) marks) ≡ marked_steps (take n marks) ++ marked_steps (mark ∷ []) =
+      ap marked_steps (take_more marks n None (omega arith)) ∙ marked_append (take n marks) mark in
+      subst (λ (k : ℕ). AreRefuted f log (front_claims mode f sets k) (marked_steps (take k marks))) up
+      (subst (λ (xs : List ℕ). AreRefuted f log (front_claims mode f sets (n + 1)) xs) (sym steps)
+      (mark_next f log sets marks n s rise lt refl mark (are s mark (n, lt, refl, refl)) before))
+
+  pub firsts_refuted : (f : Framework) (log : OracleLog) (sets : List (List ℕ)) (marks : List (Option ℕ))
+      → SetsRise sets
+      → length marks ≡ length sets
+      → ((s : List ℕ) (mark : Option ℕ) → IsPaired sets marks s mark → IsMark f log mode sets s mark)
+      → AreRefuted f log (map (range_listed f mode sets) (first_ranged f sets)) (marked_steps marks)
+  firsts_refuted f log sets marks rise same are =
+      let h = fronts_refuted f log sets marks rise same are (length sets) (omega arith) in
+      subst (λ (xs : List (List ℕ)). AreRefuted f log (map (range_listed f mode sets) (first_ranged f xs)) (marked_steps
+      marks))
+      (take_all (length sets) sets (omega arith))
+      (subst (λ (xs : List (Option ℕ)). AreRefuted f log (front_claims mode f sets (length sets)) (marked_steps xs))
+      (take_all (length sets) marks (omega arith)) h)

@@ -2,13 +2,13 @@
 use Rattle.std.specs.Prelude.{◌≡◌, ◌⊎◌, ℕ, ◌≤◌, List, [], ◌∷◌, length, None}
 use Rattle.semantics.specs.Frameworks.{Framework}
 use Rattle.meaning_atoms.specs.declared.atom.Atom.{Atom}
-use Rattle.meaning_atoms.specs.declared.atom.Atom.TheVariants.{Ad, Co, St}
+use Rattle.meaning_atoms.specs.declared.atom.Atom.TheVariants.{Cf, Ad, Co, St}
 use Rattle.meaning_atoms.specs.Worlds.{HoldsOf}
 use Rattle.iccma_tasks.specs.declared.answer.Answer.{Answer}
 use Rattle.iccma_tasks.specs.declared.answer.Answer.TheVariants.{No, Sets}
 use Rattle.iccma_tasks.specs.declared.task.Problem.TheVariants.{AllExtensions}
 use Rattle.iccma_tasks.specs.declared.task.Semantics.{Semantics}
-use Rattle.iccma_tasks.specs.declared.task.Semantics.TheVariants.{Complete, Stable, Preferred, SemiStable}
+use Rattle.iccma_tasks.specs.declared.task.Semantics.TheVariants.{Complete, Stable, Preferred, SemiStable, Stage}
 use Rattle.iccma_tasks.specs.declared.task.Task.{Task}
 use Rattle.iccma_tasks.specs.Tasks.{Asked, IsTaskOf, task_of}
 use Rattle.certificate_claims.specs.declared.row.Row.{Row}
@@ -40,14 +40,17 @@ IsModeOf Complete Co = Unit {0}
 IsModeOf Stable St = Unit {0}
 IsModeOf _ _ = ⊥
 
--- a side clause made from an admissible set, by the semantics: that a set differs from it; that something lies outside
--- it; or either that something is in the range that isn't in its range, or that a set differs from it
+-- a side clause made from an admissible set, or by stage sets from a conflict-free one, by the semantics: that a set
+-- differs from it; that something lies outside it; or either that something is in the range that isn't in its range, or
+-- that a set differs from it
 abbrev pub MadeForAll : Framework → Semantics → Making
 MadeForAll f Complete literals set = HoldsOf f set Ad × IsSameClause literals (differs f set)
 MadeForAll f Stable literals set = HoldsOf f set Ad × IsSameClause literals (differs f set)
 MadeForAll f Preferred literals set = HoldsOf f set Ad × IsSameClause literals (outside f set)
 MadeForAll f SemiStable literals set =
     HoldsOf f set Ad × (IsSameClause literals (wider f set) ⊎ IsSameClause literals (differs f set))
+MadeForAll f Stage literals set =
+    HoldsOf f set Cf × (IsSameClause literals (wider f set) ⊎ IsSameClause literals (differs f set))
 MadeForAll f _ literals set = ⊥
 
 -- ---- the answer

@@ -4,7 +4,7 @@ use Rattle.semantics.specs.Frameworks.{Framework}
 use Rattle.semantics.specs.Laws.{HasSameMembers}
 use Rattle.semantics.specs.Sets.{IsListed}
 use Rattle.meaning_atoms.specs.declared.atom.Atom.{Atom}
-use Rattle.meaning_atoms.specs.declared.atom.Atom.TheVariants.{Range, Ad, Co, St}
+use Rattle.meaning_atoms.specs.declared.atom.Atom.TheVariants.{Range, Cf, Ad, Co, St}
 use Rattle.meaning_atoms.specs.Literals.{affirmed}
 use Rattle.meaning_atoms.specs.Worlds.{HoldsOf}
 use Rattle.certificate_claims.specs.Claims.{claim_of}
@@ -22,21 +22,27 @@ use Rattle.enumerate_block.specs.declared.with_mode.Listed.TheVariants.{Whole, T
 use Rattle.enumerate_block.specs.declared.with_mode.Listing.{Listing}
 use Rattle.enumerate_block.specs.Ordered.{GainsInOrder, HasMore, HaveOneForm}
 
--- the modes whose sets are listed: admissible, complete, and stable
+-- the modes whose sets are listed: conflict-free, admissible, complete, and stable
 abbrev pub IsListMode : Atom → Type 0
+IsListMode Cf = Unit {0}
 IsListMode Ad = Unit {0}
 IsListMode Co = Unit {0}
 IsListMode St = Unit {0}
 IsListMode _ = ⊥
+
+-- what sets of the mode are at least, conflict-free or admissible: their side clauses are made from such sets
+abbrev pub base_mode : Atom → Atom
+base_mode Cf = Cf
+base_mode _ = Ad
 
 -- a set of the mode that has all of these in its range, as the atoms of the range say
 pub record IsAmong (f : Framework) (mode : Atom) (range e : List ℕ) : Type 0 where
   pub has_mode : HoldsOf f e mode
   pub ranged : (a : ℕ) → Contains range a → HoldsOf f e (Range a)
 
--- the side clause that a set differs from an admissible one, made from that one
-abbrev pub MadeDiffers : Framework → Making
-MadeDiffers f literals set = IsSameClause literals (differs f set) × HoldsOf f set Ad
+-- the side clause that a set differs from one that was found by the mode, made from that one
+abbrev pub MadeDiffers : Framework → Atom → Making
+MadeDiffers f mode literals set = IsSameClause literals (differs f set) × HoldsOf f set (base_mode mode)
 
 -- each set of the mode with this in its range is one of the listed sets
 abbrev pub mode_claim : Framework → Atom → List ℕ → List (List ℕ) → Claim

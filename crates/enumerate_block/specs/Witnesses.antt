@@ -1,13 +1,12 @@
--- Semi-stable sets that make a literal about membership true, and covers that show that there is none.
+-- Sets of a mode with widest ranges that make a literal about membership true, and covers that show that there is none.
 use Rattle.std.specs.Prelude.{◌≡◌, ℕ, true, false, Bool, List, [], ◌∷◌, ◌++◌, map, Contains, Option, Some, None}
+use Rattle.semantics.specs.declared.mode.Mode.{Mode}
 use Rattle.semantics.specs.Frameworks.{Framework}
-use Rattle.meaning_atoms.specs.declared.atom.Atom.TheVariants.{Ad}
 use Rattle.meaning_atoms.specs.declared.atom.AtomLit.{AtomLit}
 use Rattle.meaning_atoms.specs.Literals.{negated}
 use Rattle.meaning_atoms.specs.Worlds.{HoldsOf}
-use Rattle.iccma_tasks.specs.declared.task.Semantics.TheVariants.{SemiStable}
 use Rattle.certificate_claims.specs.Acceptance.{AcceptsAsSaid}
-use Rattle.certificate_claims.specs.Claims.{claims, range_cover, range_free}
+use Rattle.certificate_claims.specs.Claims.{claims, mode_atom, range_cover, range_free, range_widest, widest_semantics}
 use Rattle.certificate_claims.specs.declared.row.Row.TheVariants.{Ranged}
 use Rattle.certificate_claims.specs.Rights.{IsExtension}
 use Rattle.certificate_claims.specs.SetLiterals.{goal, wider}
@@ -19,7 +18,7 @@ use Rattle.oracle_face.specs.Logs.{OracleLog}
 use Rattle.goal_lists.specs.Asking.{AreApart}
 use Rattle.goal_lists.specs.Sides.{AreAsksOf, IsAskOf}
 use Rattle.enumerate_block.specs.semi_stable.specs.declared.widest.Widest.{Widest}
-use Rattle.enumerate_block.specs.semi_stable.specs.Widest.{HasRange, IsRangeIn, wider_claim}
+use Rattle.enumerate_block.specs.semi_stable.specs.Widest.{HasRange, IsRangeIn}
 use Rattle.enumerate_block.specs.Ranges.{AreRefuted}
 use Rattle.enumerate_block.specs.declared.deciding.RangeCover.{RangeCover}
 use Rattle.enumerate_block.specs.declared.deciding.Deciding.{Deciding}
@@ -47,52 +46,57 @@ outs_of false goals = goals
 
 -- ---- the evidence
 
--- a semi-stable set that makes the literal true, with its range and the step that shows that it is semi-stable
-pub record IsWitness (f : Framework) (log : OracleLog) (q : ℕ) (accepted : Bool) (found : Widest) : Type 0 where
-  pub has_range : HasRange f found
+-- a set of the mode with a widest range that makes the literal true, with its range and the step that shows that no
+-- other range is wider
+pub record IsWitness (f : Framework) (log : OracleLog) (mode : Mode) (q : ℕ) (accepted : Bool) (found : Widest)
+    : Type 0 where
+  pub has_range : HasRange f mode found
   pub makes_it : MakesIt f q accepted found.set
-  pub refuted : Refutes f log (wider_claim f Ad found.set) found.refutation
-  pub semi_stable : IsExtension f SemiStable found.set
+  pub refuted : Refutes f log (range_widest f mode found.set) found.refutation
+  pub is_widest : IsExtension f (widest_semantics mode) found.set
 
--- admissible sets and steps that show that no semi-stable set makes the literal true
-pub record IsNoWitness (f : Framework) (log : OracleLog) (q : ℕ) (accepted : Bool) (sets : List (List ℕ))
-    (steps : List ℕ) : Type 0 where
-  pub each : (e : List ℕ) → Contains sets e → HoldsOf f e Ad
-  pub refuted : AreRefuted f log (claims f (Ranged (literal_of f q accepted)) sets) steps
-  pub none_makes_it : (e : List ℕ) → IsExtension f SemiStable e → MakesIt f q accepted e → ⊥
+-- sets of the mode, and steps that show that none with a widest range makes the literal true
+pub record IsNoWitness (f : Framework) (log : OracleLog) (mode : Mode) (q : ℕ) (accepted : Bool)
+    (sets : List (List ℕ)) (steps : List ℕ) : Type 0 where
+  pub each : (e : List ℕ) → Contains sets e → HoldsOf f e (mode_atom mode)
+  pub refuted : AreRefuted f log (claims f (Ranged mode (literal_of f q accepted)) sets) steps
+  pub none_makes_it : (e : List ℕ) → IsExtension f (widest_semantics mode) e → MakesIt f q accepted e → ⊥
 
 -- the evidence of either answer, as its certificate asks for it, and what it shows
-abbrev pub IsDecided : Framework → OracleLog → ℕ → Bool → Deciding → Type 0
-IsDecided f log q accepted (Witness found) = IsWitness f log q accepted found
-IsDecided f log q accepted (NoWitness sets steps) = IsNoWitness f log q accepted sets steps
+abbrev pub IsDecided : Framework → OracleLog → Mode → ℕ → Bool → Deciding → Type 0
+IsDecided f log mode q accepted (Witness found) = IsWitness f log mode q accepted found
+IsDecided f log mode q accepted (NoWitness sets steps) = IsNoWitness f log mode q accepted sets steps
 
 -- ---- the search
 
--- admissible sets of an abstract framework, each with a step that shows that no admissible set that makes the literal
--- true has all of its range; and different side clauses, each that something is in the range that isn't in that of one
--- of the sets
-pub record IsCover (f : Framework) (log : OracleLog) (q : ℕ) (accepted : Bool) (cover : RangeCover) : Type 0 where
+-- sets of the mode, in an abstract framework, each with a step that shows that no set of the mode that makes the
+-- literal true has all of its range; and different side clauses, each that something is in the range that isn't in that
+-- of one of the sets
+pub record IsCover (f : Framework) (log : OracleLog) (mode : Mode) (q : ℕ) (accepted : Bool) (cover : RangeCover)
+    : Type 0 where
   pub kind : is_assumption_based f ≡ false
-  pub each : (e : List ℕ) → Contains cover.sets e → HoldsOf f e Ad
-  pub free : AreRefuted f log (map (range_free f (literal_of f q accepted)) cover.sets) cover.steps
+  pub each : (e : List ℕ) → Contains cover.sets e → HoldsOf f e (mode_atom mode)
+  pub free : AreRefuted f log (map (range_free f mode (literal_of f q accepted)) cover.sets) cover.steps
   pub asks : AreAsksOf (wider f) log.sides cover.sets cover.asks
   pub apart : AreApart cover.asks
 
--- an admissible set that makes the literal true and whose range lies in none of the sets', or a step that refutes that
+-- a set of the mode that makes the literal true and whose range lies in none of the sets', or a step that refutes that
 -- there is one
-abbrev pub IsUncovered : Framework → OracleLog → ℕ → Bool → RangeCover → Found → Type 0
-IsUncovered f log q accepted cover (Set set) =
-    HoldsOf f set Ad
+abbrev pub IsUncovered : Framework → OracleLog → Mode → ℕ → Bool → RangeCover → Found → Type 0
+IsUncovered f log mode q accepted cover (Set set) =
+    HoldsOf f set (mode_atom mode)
     × MakesIt f q accepted set
     × ((e : List ℕ) → Contains cover.sets e → IsRangeIn f set e → ⊥)
-IsUncovered f log q accepted cover (Refuted step) =
-    Refutes f log (range_cover f (literal_of f q accepted ∷ []) cover.sets) step
+IsUncovered f log mode q accepted cover (Refuted step) =
+    Refutes f log (range_cover f mode (literal_of f q accepted ∷ []) cover.sets) step
 
--- an admissible set that makes the literal true and has all of the set's range, or a step that refutes that there is
+-- a set of the mode that makes the literal true and has all of the set's range, or a step that refutes that there is
 -- one
-abbrev pub IsMadeWithin : Framework → OracleLog → ℕ → Bool → List ℕ → Found → Type 0
-IsMadeWithin f log q accepted e (Set set) = HoldsOf f set Ad × MakesIt f q accepted set × IsRangeIn f e set
-IsMadeWithin f log q accepted e (Refuted step) = Refutes f log (range_free f (literal_of f q accepted) e) step
+abbrev pub IsMadeWithin : Framework → OracleLog → Mode → ℕ → Bool → List ℕ → Found → Type 0
+IsMadeWithin f log mode q accepted e (Set set) =
+    HoldsOf f set (mode_atom mode) × MakesIt f q accepted set × IsRangeIn f e set
+IsMadeWithin f log mode q accepted e (Refuted step) =
+    Refutes f log (range_free f mode (literal_of f q accepted) e) step
 
 -- the cover has one set more, with the step and with its side clause
 pub record Takes (f : Framework) (log : OracleLog) (widest : Widest) (step : ℕ) (old new : RangeCover) : Type 0 where
@@ -103,18 +107,18 @@ pub record Takes (f : Framework) (log : OracleLog) (widest : Widest) (step : ℕ
   pub ask : IsAskOf log.sides (wider f widest.set) number
 
 -- the cover has one set more, whose range lay in none of those before
-pub record IsExtended (f : Framework) (log : OracleLog) (q : ℕ) (accepted : Bool) (old new : RangeCover) (e : List ℕ)
-    (step number : ℕ) : Type 0 where
+pub record IsExtended (f : Framework) (log : OracleLog) (mode : Mode) (q : ℕ) (accepted : Bool) (old new : RangeCover)
+    (e : List ℕ) (step number : ℕ) : Type 0 where
   pub sets : new.sets ≡ old.sets ++ e ∷ []
   pub steps : new.steps ≡ old.steps ++ step ∷ []
   pub asks : new.asks ≡ old.asks ++ number ∷ []
-  pub admissible : HoldsOf f e Ad
-  pub free : Refutes f log (range_free f (literal_of f q accepted) e) step
+  pub has_mode : HoldsOf f e (mode_atom mode)
+  pub free : Refutes f log (range_free f mode (literal_of f q accepted) e) step
   pub ask : IsAskOf log.sides (wider f e) number
   pub outside_all : (d : List ℕ) → Contains old.sets d → IsRangeIn f e d → ⊥
 
 -- a witness, or one set more in the cover
-abbrev pub Extends : Framework → OracleLog → ℕ → Bool → RangeCover → RangeCover → Option Widest → Type 0
-Extends f log q accepted old new (Some found) = IsWitness f log q accepted found
-Extends f log q accepted old new None =
-    (e : List ℕ) × (step : ℕ) × (number : ℕ) × IsExtended f log q accepted old new e step number
+abbrev pub Extends : Framework → OracleLog → Mode → ℕ → Bool → RangeCover → RangeCover → Option Widest → Type 0
+Extends f log mode q accepted old new (Some found) = IsWitness f log mode q accepted found
+Extends f log mode q accepted old new None =
+    (e : List ℕ) × (step : ℕ) × (number : ℕ) × IsExtended f log mode q accepted old new e step number

@@ -1,7 +1,6 @@
-//! Whether some semi-stable set makes a literal about membership true.
+//! Whether some set of a mode with a widest range makes a literal about membership true.
 
 ghost use Rattle.std.specs.Prelude.{◌≡◌, ◌∷◌, false, Contains, IfOk, OnOk};
-ghost use Rattle.meaning_atoms.specs.declared.atom.Atom.TheVariants.{Ad};
 ghost use Rattle.certificate_claims.specs.SetLiterals.{members};
 ghost use Rattle.oracle_face.specs.Kinds.{is_assumption_based};
 ghost use Rattle.oracle_face.specs.Growing.{closes, halt_of};
@@ -10,22 +9,23 @@ ghost use Rattle.enumerate_block.specs.Witnesses.{Extends, IsCover, IsDecided, I
 ghost use Rattle.enumerate_block.specs.Witnesses.{IsUncovered, Takes, ins_of, outs_of};
 ghost use Rattle.goal_lists.specs.Runs.{Ran, RanInAll};
 
+use certificate_claims::mode_atom;
 use goal_lists::{Wanted, search_for};
 use lists::{Items, Memory};
-use meaning_atoms::Atom;
 use oracle_face::{AskId, Budget, Found, Halt, Oracle, StepId};
-use semi_stable::{Widest, oblige_wider, widest_from};
+use semantics::Mode;
+use semi_stable::{Widest, oblige_wider, widest_in};
 use set_lists::NumSet;
 use std::alloc::Global;
 
-/// What came of asking whether a semi-stable set makes a literal about membership true.
+/// What came of asking whether a set of a mode with a widest range makes a literal about membership true.
 #[derive(Drop)]
 pub enum Deciding {
-    /// A semi-stable set that does, its range, and the log step that refutes that another admissible set has all of
-    /// that range and more.
+    /// A set that does, its range, and the log step that refutes that another of the mode has all of that range and
+    /// more.
     Witness(Widest),
-    /// Admissible sets, in one of whose ranges lies the range of each admissible set that makes the literal true. The
-    /// first step shows that; then there is one for each set in order, which shows that no admissible set that makes
+    /// Sets of the mode, in one of whose ranges lies the range of each set of the mode that makes the literal true. The
+    /// first step shows that; then there is one for each set in order, which shows that no set of the mode that makes
     /// the literal true has all of its range.
     NoWitness(Items<NumSet>, Items<StepId>),
 }
@@ -39,21 +39,22 @@ struct RangeCover {
     asks: Items<AskId>,
 }
 
-/// Whether a semi-stable set of an abstract framework accepts an argument, or where `accepted` is false, whether one
-/// doesn't. Where r ranges of
-/// semi-stable sets are found, it asks r + 1 times at most for a set whose range lies in none of them, and r times for
-/// a set that has one of them, besides what it asks to grow each range.
+/// Whether a set of the mode with a widest range, in an abstract framework, accepts an argument, or where `accepted` is
+/// false, whether one doesn't. Where r widest ranges are found, it asks r + 1 times at most for a set whose range lies
+/// in none of them, and r times for a set that has one of them, besides what it asks to grow each range.
 pub fn decide<O: Oracle>(
     alloc: Global,
     oracle: &mut O,
     budget: &mut Budget,
+    mode: Mode,
     goal: u32,
     accepted: bool,
 ) -> Result<Deciding, Halt>
     requires kind { is_assumption_based (O.framework oracle.old) ≡ false }
     requires goal { Contains (members (O.framework oracle.old)) goal }
-    ensures decided { IfOk result (IsDecided (O.framework oracle.old) (O.log oracle.new) goal accepted) }
-    ensures ran { RanInAll O.Oracle (λ f. MadeWider f Ad) oracle.old oracle.new budget.old budget.new (halt_of result) }
+    ensures decided { IfOk result (IsDecided (O.framework oracle.old) (O.log oracle.new) mode goal accepted) }
+    ensures ran { RanInAll O.Oracle (λ f. MadeWider f mode) oracle.old oracle.new budget.old budget.new
+        (halt_of result) }
 {
     let _members = oracle.members();
     let mut cover = RangeCover {
@@ -62,13 +63,15 @@ pub fn decide<O: Oracle>(
         asks: Items::new(alloc),
     };
     loop {
-        match find_uncovered(alloc, oracle, budget, goal, accepted, &cover)? {
+        match find_uncovered(alloc, oracle, budget, mode, goal, accepted, &cover)? {
             Found::Refuted(step) => {
                 let steps = with_first(step, cover.steps)?;
                 return Ok(Deciding::NoWitness(cover.sets, steps));
             }
             Found::Set(set) => {
-                match extend(alloc, oracle, budget, goal, accepted, &mut cover, &set)? {
+                match extend(
+                    alloc, oracle, budget, mode, goal, accepted, &mut cover, &set,
+                )? {
                     Some(witness) => return Ok(Deciding::Witness(witness)),
                     None => {}
                 }
@@ -115,57 +118,61 @@ fn goals_wanted<'a>(
     }
 }
 
-/// An admissible set that makes the literal true and whose range lies in none of those of the cover, or the step that
+/// A set of the mode that makes the literal true and whose range lies in none of those of the cover, or the step that
 /// shows that there is none.
 fn find_uncovered<O: Oracle>(
     alloc: Global,
     oracle: &mut O,
     budget: &mut Budget,
+    mode: Mode,
     goal: u32,
     accepted: bool,
     cover: &RangeCover,
 ) -> Result<Found, Halt>
     requires goal { Contains (members (O.framework oracle.old)) goal }
-    requires cover { IsCover (O.framework oracle.old) (O.log oracle.old) goal accepted cover.now }
-    ensures uncovered { IfOk result (IsUncovered (O.framework oracle.old) (O.log oracle.new) goal accepted cover.now) }
-    ensures ran { Ran O.Oracle (λ f. MadeWider f Ad) (closes result) oracle.old oracle.new budget.old budget.new
+    requires cover { IsCover (O.framework oracle.old) (O.log oracle.old) mode goal accepted cover.now }
+    ensures uncovered { IfOk result (IsUncovered (O.framework oracle.old) (O.log oracle.new) mode goal accepted
+        cover.now) }
+    ensures ran { Ran O.Oracle (λ f. MadeWider f mode) (closes result) oracle.old oracle.new budget.old budget.new
         (halt_of result) }
 {
     let _members = oracle.members();
     let goals = [goal];
     let wanted = goals_wanted(&goals, accepted, &[], cover.asks.as_slice());
-    search_for(alloc, oracle, budget, Atom::Ad, &wanted)
+    search_for(alloc, oracle, budget, mode_atom(mode), &wanted)
 }
 
-/// An admissible set that makes the literal true and has all of a set's range, or the step that shows that there is
+/// A set of the mode that makes the literal true and has all of a set's range, or the step that shows that there is
 /// none.
 fn within_range<O: Oracle>(
     alloc: Global,
     oracle: &mut O,
     budget: &mut Budget,
+    mode: Mode,
     goal: u32,
     accepted: bool,
     widest: &Widest,
 ) -> Result<Found, Halt>
     requires goal { Contains (members (O.framework oracle.old)) goal }
-    requires range { HasRange (O.framework oracle.old) widest.now }
-    ensures within { IfOk result (IsMadeWithin (O.framework oracle.old) (O.log oracle.new) goal accepted
+    requires range { HasRange (O.framework oracle.old) mode widest.now }
+    ensures within { IfOk result (IsMadeWithin (O.framework oracle.old) (O.log oracle.new) mode goal accepted
         widest.now.set) }
-    ensures ran { Ran O.Oracle (λ f. MadeWider f Ad) (closes result) oracle.old oracle.new budget.old budget.new
+    ensures ran { Ran O.Oracle (λ f. MadeWider f mode) (closes result) oracle.old oracle.new budget.old budget.new
         (halt_of result) }
 {
     let _members = oracle.members();
     let goals = [goal];
     let wanted = goals_wanted(&goals, accepted, widest.range.as_slice(), &[]);
-    search_for(alloc, oracle, budget, Atom::Ad, &wanted)
+    search_for(alloc, oracle, budget, mode_atom(mode), &wanted)
 }
 
-/// Grows the range of the set that was found. Gives a semi-stable set with the grown range that makes the literal true,
+/// Grows the range of the set that was found. Gives a set of the mode with the grown range that makes the literal true,
 /// or takes the range into the cover.
 fn extend<O: Oracle>(
     alloc: Global,
     oracle: &mut O,
     budget: &mut Budget,
+    mode: Mode,
     goal: u32,
     accepted: bool,
     cover: &mut RangeCover,
@@ -173,21 +180,22 @@ fn extend<O: Oracle>(
 ) -> Result<Option<Widest>, Halt>
     requires kind { is_assumption_based (O.framework oracle.old) ≡ false }
     requires goal { Contains (members (O.framework oracle.old)) goal }
-    requires set { IsUncovered (O.framework oracle.old) (O.log oracle.old) goal accepted cover.old (Found.Set set.now) }
-    ensures extends { IfOk result (Extends (O.framework oracle.old) (O.log oracle.new) goal accepted cover.old
+    requires set { IsUncovered (O.framework oracle.old) (O.log oracle.old) mode goal accepted cover.old
+        (Found.Set set.now) }
+    ensures extends { IfOk result (Extends (O.framework oracle.old) (O.log oracle.new) mode goal accepted cover.old
         cover.new) }
-    ensures ran { Ran O.Oracle (λ f. MadeWider f Ad) 2 oracle.old oracle.new budget.old budget.new (halt_of result) }
+    ensures ran { Ran O.Oracle (λ f. MadeWider f mode) 2 oracle.old oracle.new budget.old budget.new (halt_of result) }
 {
     let _members = oracle.members();
-    let widest = widest_from(alloc, oracle, budget, Atom::Ad, set)?;
-    match within_range(alloc, oracle, budget, goal, accepted, &widest)? {
+    let widest = widest_in(alloc, oracle, budget, mode, set)?;
+    match within_range(alloc, oracle, budget, mode, goal, accepted, &widest)? {
         Found::Set(set) => Ok(Some(Widest {
             set,
             range: widest.range,
             refutation: widest.refutation,
         })),
         Found::Refuted(step) => {
-            take_range(alloc, oracle, budget, cover, widest, step)?;
+            take_range(alloc, oracle, budget, mode, cover, widest, step)?;
             Ok(None)
         }
     }
@@ -199,15 +207,16 @@ fn take_range<O: Oracle>(
     alloc: Global,
     oracle: &mut O,
     budget: &mut Budget,
+    mode: Mode,
     cover: &mut RangeCover,
     widest: Widest,
     step: StepId,
 ) -> Result<(), Halt>
-    requires { HasRange (O.framework oracle.old) widest }
+    requires { HasRange (O.framework oracle.old) mode widest }
     ensures takes { OnOk result (Takes (O.framework oracle.old) (O.log oracle.new) widest step cover.old cover.new) }
-    ensures ran { Ran O.Oracle (λ f. MadeWider f Ad) 0 oracle.old oracle.new budget.old budget.new (halt_of result) }
+    ensures ran { Ran O.Oracle (λ f. MadeWider f mode) 0 oracle.old oracle.new budget.old budget.new (halt_of result) }
 {
-    let ask = oblige_wider(alloc, oracle, budget, &widest)?;
+    let ask = oblige_wider(alloc, oracle, budget, mode, &widest)?;
     cover.asks.push(ask)?;
     cover.steps.push(step)?;
     cover.sets.push(widest.set)?;

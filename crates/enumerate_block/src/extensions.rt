@@ -2,16 +2,18 @@
 
 ghost use Rattle.std.specs.Prelude.{◌≡◌, false, IfOk};
 ghost use Rattle.iccma_tasks.specs.declared.task.Semantics.{Semantics};
+ghost use Rattle.certificate_claims.specs.Claims.{widest_semantics};
 ghost use Rattle.oracle_face.specs.Kinds.{is_assumption_based};
 ghost use Rattle.oracle_face.specs.Growing.{halt_of};
 ghost use Rattle.enumerate_block.specs.Extensions.{IsListOf, IsListTask, IsModeOf, MadeForAll, with_step, with_steps};
 ghost use Rattle.goal_lists.specs.Runs.{RanInAll};
 
-use crate::{Listed, Ranged, all_preferred, all_semi_stable, all_with_mode};
+use crate::{Listed, Ranged, all_preferred, all_widest, all_with_mode};
 use iccma_tasks::{Semantics, Task};
 use lists::{Items, Memory};
 use meaning_atoms::Atom;
 use oracle_face::{Budget, Halt, Oracle, StepId};
+use semantics::Mode;
 use set_lists::NumSet;
 use std::alloc::Global;
 
@@ -27,8 +29,8 @@ pub enum Extensions {
 
 /// All extensions, at most so many. Where there are k, it asks k + 1 times for a complete or a stable set; for a
 /// preferred set that lies in none of those found also k + 1 times, besides what it asks to grow each; and where
-/// semi-stable sets have r ranges, r + 1 times for a range that lies in none of those found and k times for sets with
-/// these ranges, besides what it asks to grow each range.
+/// semi-stable or stage sets have r ranges, r + 1 times for a range that lies in none of those found and k times for
+/// sets with these ranges, besides what it asks to grow each range.
 pub fn all<O: Oracle>(
     alloc: Global,
     oracle: &mut O,
@@ -47,7 +49,8 @@ pub fn all<O: Oracle>(
         }
         Semantics::Stable => all_tested(alloc, oracle, budget, Semantics::Stable, Atom::St, limit),
         Semantics::Preferred => all_largest(alloc, oracle, budget, limit),
-        Semantics::SemiStable => all_widest(alloc, oracle, budget, limit),
+        Semantics::SemiStable => all_ranged(alloc, oracle, budget, Mode::Ad, limit),
+        Semantics::Stage => all_ranged(alloc, oracle, budget, Mode::Cf, limit),
         Semantics::Grounded | Semantics::Ideal => unreachable!(),
     }
 }
@@ -87,19 +90,20 @@ fn all_largest<O: Oracle>(
     Ok(extensions)
 }
 
-/// All semi-stable sets of an abstract framework.
-fn all_widest<O: Oracle>(
+/// All sets of the mode with widest ranges, in an abstract framework.
+fn all_ranged<O: Oracle>(
     alloc: Global,
     oracle: &mut O,
     budget: &mut Budget,
+    mode: Mode,
     limit: usize,
 ) -> Result<Extensions, Halt>
     requires { is_assumption_based (O.framework oracle.old) ≡ false }
-    ensures listed { IfOk result (IsListOf (O.framework oracle.old) (O.log oracle.new) Semantics.SemiStable limit) }
-    ensures ran { RanInAll O.Oracle (λ f. MadeForAll f Semantics.SemiStable) oracle.old oracle.new budget.old budget.new
-        (halt_of result) }
+    ensures listed { IfOk result (IsListOf (O.framework oracle.old) (O.log oracle.new) (widest_semantics mode) limit) }
+    ensures ran { RanInAll O.Oracle (λ f. MadeForAll f (widest_semantics mode)) oracle.old oracle.new budget.old
+        budget.new (halt_of result) }
 {
-    let ranged = all_semi_stable(alloc, oracle, budget, limit)?;
+    let ranged = all_widest(alloc, oracle, budget, mode, limit)?;
     Ok(extensions_with(ranged))
 }
 

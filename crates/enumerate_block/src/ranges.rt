@@ -1,4 +1,4 @@
-//! All semi-stable sets.
+//! All sets of a mode with widest ranges.
 
 ghost use Rattle.std.specs.Prelude.{◌≡◌, ◌≤◌, false, length, IfOk};
 ghost use Rattle.oracle_face.specs.Kinds.{is_assumption_based};
@@ -8,28 +8,29 @@ ghost use Rattle.goal_lists.specs.Runs.{Ran, RanInAll};
 
 use crate::marks::{insert_all, steps_of};
 use crate::{Listed, all_with_range};
+use certificate_claims::mode_atom;
 use goal_lists::{Wanted, search_for};
 use lists::Items;
-use meaning_atoms::Atom;
 use oracle_face::{AskId, Budget, Found, Halt, Oracle, StepId};
-use semi_stable::{Widest, oblige_wider, widest_from};
+use semantics::Mode;
+use semi_stable::{Widest, oblige_wider, widest_in};
 use set_lists::NumSet;
 use std::alloc::Global;
 
-/// What came of listing semi-stable sets.
+/// What came of listing sets of a mode with widest ranges.
 #[derive(Drop)]
 pub enum Ranged {
-    /// All of them, in the order of their lists; then the log step that shows that each admissible set's range lies in
-    /// one of theirs, and for each set that is the first with its range the one that shows that no other has that
-    /// range.
+    /// All of them, in the order of their lists; then the log step that shows that the range of each set of the mode
+    /// lies in one of theirs, and for each set that is the first with its range the one that shows that no other has
+    /// that range.
     Whole(Vec<NumSet>, Items<StepId>),
     /// More than the limit were found.
     TooMany,
 }
 
-/// Semi-stable sets found, in the order of their lists, all with each range that is there. Each that is the first with
-/// its range is marked with the log step that shows that no other has the range. The side clauses are those that
-/// something is in the range that isn't in one of these ranges.
+/// Sets of a mode with widest ranges, in the order of their lists, all with each range that is there. Each that is the
+/// first with its range is marked with the log step that shows that no other has the range. The side clauses are those
+/// that something is in the range that isn't in one of these ranges.
 #[derive(Drop)]
 struct Ranges {
     sets: Vec<NumSet>,
@@ -37,18 +38,20 @@ struct Ranges {
     asks: Items<AskId>,
 }
 
-/// All semi-stable sets of an abstract framework, at most so many. Where they have k ranges, it asks k + 1 times for a
-/// range that lies in none of those found, and within each range as often as there are sets with it, besides what it
-/// asks to grow each range.
-pub fn all_semi_stable<O: Oracle>(
+/// All sets of the mode with widest ranges, in an abstract framework, at most so many: by the mode `Cf` the stage sets,
+/// by `Ad` the semi-stable sets. Where they have k ranges, it asks k + 1 times for a range that lies in none of those
+/// found, and within each range as often as there are sets with it, besides what it asks to grow each range.
+pub fn all_widest<O: Oracle>(
     alloc: Global,
     oracle: &mut O,
     budget: &mut Budget,
+    mode: Mode,
     limit: usize,
 ) -> Result<Ranged, Halt>
     requires { is_assumption_based (O.framework oracle.old) ≡ false }
-    ensures ranged { IfOk result (IsAllOrMore (O.framework oracle.old) (O.log oracle.new) limit) }
-    ensures ran { RanInAll O.Oracle MadeForRanges oracle.old oracle.new budget.old budget.new (halt_of result) }
+    ensures ranged { IfOk result (IsAllOrMore (O.framework oracle.old) (O.log oracle.new) mode limit) }
+    ensures ran { RanInAll O.Oracle (λ f. MadeForRanges f mode) oracle.old oracle.new budget.old budget.new
+        (halt_of result) }
 {
     let _members = oracle.members();
     let mut found = Ranges {
@@ -57,13 +60,13 @@ pub fn all_semi_stable<O: Oracle>(
         asks: Items::new(alloc),
     };
     loop {
-        match find_uncovered(alloc, oracle, budget, &found)? {
+        match find_uncovered(alloc, oracle, budget, mode, &found)? {
             Found::Refuted(step) => {
                 let steps = steps_of(alloc, step, found.marks.as_slice())?;
                 return Ok(Ranged::Whole(found.sets, steps));
             }
             Found::Set(set) => {
-                let room = record_range(alloc, oracle, budget, limit, &mut found, &set)?;
+                let room = record_range(alloc, oracle, budget, mode, limit, &mut found, &set)?;
                 if !room {
                     return Ok(Ranged::TooMany);
                 }
@@ -72,17 +75,18 @@ pub fn all_semi_stable<O: Oracle>(
     }
 }
 
-/// An admissible set whose range lies in none of those found, or the step that shows that there is none.
+/// A set of the mode whose range lies in none of those found, or the step that shows that there is none.
 fn find_uncovered<O: Oracle>(
     alloc: Global,
     oracle: &mut O,
     budget: &mut Budget,
+    mode: Mode,
     found: &Ranges,
 ) -> Result<Found, Halt>
-    requires { AreFound (O.framework oracle.old) (O.log oracle.old) found.now }
-    ensures uncovered { IfOk result (IsUncovered (O.framework oracle.old) (O.log oracle.new) found.now) }
-    ensures ran { Ran O.Oracle MadeForRanges (closes result) oracle.old oracle.new budget.old budget.new (halt_of
-        result) }
+    requires { AreFound (O.framework oracle.old) (O.log oracle.old) mode found.now }
+    ensures uncovered { IfOk result (IsUncovered (O.framework oracle.old) (O.log oracle.new) mode found.now) }
+    ensures ran { Ran O.Oracle (λ f. MadeForRanges f mode) (closes result) oracle.old oracle.new budget.old budget.new
+        (halt_of result) }
 {
     let _members = oracle.members();
     let wanted = Wanted {
@@ -91,7 +95,7 @@ fn find_uncovered<O: Oracle>(
         ranged: &[],
         asks: found.asks.as_slice(),
     };
-    search_for(alloc, oracle, budget, Atom::Ad, &wanted)
+    search_for(alloc, oracle, budget, mode_atom(mode), &wanted)
 }
 
 /// A set with a widest range that holds the set's, with one more side clause, that something is not in that range.
@@ -99,16 +103,19 @@ fn grow_range<O: Oracle>(
     alloc: Global,
     oracle: &mut O,
     budget: &mut Budget,
+    mode: Mode,
     found: &mut Ranges,
     set: &NumSet,
 ) -> Result<Widest, Halt>
     requires kind { is_assumption_based (O.framework oracle.old) ≡ false }
-    requires set { IsUncovered (O.framework oracle.old) (O.log oracle.old) found.old (Found.Set set.now) }
-    ensures grows { IfOk result (GrowsRange (O.framework oracle.old) (O.log oracle.new) set.now found.old found.new) }
-    ensures ran { Ran O.Oracle MadeForRanges 1 oracle.old oracle.new budget.old budget.new (halt_of result) }
+    requires set { IsUncovered (O.framework oracle.old) (O.log oracle.old) mode found.old (Found.Set set.now) }
+    ensures grows { IfOk result (GrowsRange (O.framework oracle.old) (O.log oracle.new) mode set.now found.old
+        found.new) }
+    ensures ran { Ran O.Oracle (λ f. MadeForRanges f mode) 1 oracle.old oracle.new budget.old budget.new
+        (halt_of result) }
 {
-    let widest = widest_from(alloc, oracle, budget, Atom::Ad, set)?;
-    let ask = oblige_wider(alloc, oracle, budget, &widest)?;
+    let widest = widest_in(alloc, oracle, budget, mode, set)?;
+    let ask = oblige_wider(alloc, oracle, budget, mode, &widest)?;
     found.asks.push(ask)?;
     Ok(widest)
 }
@@ -119,23 +126,27 @@ fn record_range<O: Oracle>(
     alloc: Global,
     oracle: &mut O,
     budget: &mut Budget,
+    mode: Mode,
     limit: usize,
     found: &mut Ranges,
     set: &NumSet,
 ) -> Result<bool, Halt>
-    requires found { AreFound (O.framework oracle.old) (O.log oracle.old) found.old }
+    requires found { AreFound (O.framework oracle.old) (O.log oracle.old) mode found.old }
     requires room { length found.old.sets.items ≤ limit }
-    requires set { IsUncovered (O.framework oracle.old) (O.log oracle.old) found.old (Found.Set set.now) }
-    ensures records { IfOk result (Records (O.framework oracle.old) (O.log oracle.new) limit found.old found.new) }
-    ensures ran { Ran O.Oracle MadeForRanges 2 oracle.old oracle.new budget.old budget.new (halt_of result) }
+    requires set { IsUncovered (O.framework oracle.old) (O.log oracle.old) mode found.old (Found.Set set.now) }
+    ensures records { IfOk result (Records (O.framework oracle.old) (O.log oracle.new) mode limit found.old
+        found.new) }
+    ensures ran { Ran O.Oracle (λ f. MadeForRanges f mode) 2 oracle.old oracle.new budget.old budget.new
+        (halt_of result) }
 {
     let _members = oracle.members();
-    let widest = grow_range(alloc, oracle, budget, found, set)?;
+    let widest = grow_range(alloc, oracle, budget, mode, found, set)?;
     let room = limit - found.sets.len();
     match all_with_range(
         alloc,
         oracle,
         budget,
+        mode,
         widest.range.as_slice(),
         room,
         &widest.set,

@@ -2,20 +2,22 @@
 
 ghost use Rattle.std.specs.Prelude.{◌≤◌, [], length, IfOk};
 ghost use Rattle.lists.specs.Members.{IsWithin};
-ghost use Rattle.meaning_atoms.specs.declared.atom.Atom.TheVariants.{Ad};
 ghost use Rattle.meaning_atoms.specs.Worlds.{HoldsOf};
+ghost use Rattle.certificate_claims.specs.Claims.{mode_atom};
 ghost use Rattle.certificate_claims.specs.SetLiterals.{differs as differs_of, members};
 ghost use Rattle.oracle_face.specs.Growing.{closes, halt_of};
 ghost use Rattle.enumerate_block.specs.Modes.{IsAllOrMore, IsAmong, IsFurtherOf, IsListing, IsListMode};
-ghost use Rattle.enumerate_block.specs.Modes.{MadeDiffers, Records};
+ghost use Rattle.enumerate_block.specs.Modes.{MadeDiffers, Records, base_mode};
 ghost use Rattle.goal_lists.specs.Runs.{Ran};
 ghost use Rattle.goal_lists.specs.Sides.{IsAskOf};
 
 use crate::ordered::insert_in_order;
+use certificate_claims::mode_atom;
 use goal_lists::{Wanted, differs, search_for};
 use lists::Items;
 use meaning_atoms::Atom;
 use oracle_face::{AskId, Budget, Found, Halt, Oracle, StepId};
+use semantics::Mode;
 use set_lists::NumSet;
 use std::alloc::Global;
 
@@ -35,7 +37,8 @@ struct Listing {
     asks: Items<AskId>,
 }
 
-/// All admissible, complete or stable sets, as the mode says, at most so many. Where there are k, it asks k + 1 times.
+/// All conflict-free, admissible, complete or stable sets, as the mode says, at most so many. Where there are k, it
+/// asks k + 1 times.
 pub fn all_with_mode<O: Oracle>(
     alloc: Global,
     oracle: &mut O,
@@ -45,7 +48,8 @@ pub fn all_with_mode<O: Oracle>(
 ) -> Result<Listed, Halt>
     requires { IsListMode mode }
     ensures listed { IfOk result (IsAllOrMore (O.framework oracle.old) (O.log oracle.new) mode [] limit) }
-    ensures ran { Ran O.Oracle MadeDiffers 1 oracle.old oracle.new budget.old budget.new (halt_of result) }
+    ensures ran { Ran O.Oracle (λ f. MadeDiffers f mode) 1 oracle.old oracle.new budget.old budget.new
+        (halt_of result) }
 {
     let _members = oracle.members();
     let listing = Listing {
@@ -55,22 +59,26 @@ pub fn all_with_mode<O: Oracle>(
     list_on(alloc, oracle, budget, mode, &[], limit, listing)
 }
 
-/// All admissible sets with these members of the framework in their range, of which one is known, at most so many.
+/// All sets of the mode with these members of the framework in their range, of which one is known, at most so many.
 /// Where there are k, it asks k times.
 pub fn all_with_range<O: Oracle>(
     alloc: Global,
     oracle: &mut O,
     budget: &mut Budget,
+    mode: Mode,
     range: &[u32],
     limit: usize,
     known: &NumSet,
 ) -> Result<Listed, Halt>
     requires range { IsWithin range.now (members (O.framework oracle.old)) }
-    requires known { IsAmong (O.framework oracle.old) Ad range.now known.now }
-    ensures listed { IfOk result (IsAllOrMore (O.framework oracle.old) (O.log oracle.new) Ad range.now limit) }
-    ensures ran { Ran O.Oracle MadeDiffers 1 oracle.old oracle.new budget.old budget.new (halt_of result) }
+    requires known { IsAmong (O.framework oracle.old) (mode_atom mode) range.now known.now }
+    ensures listed { IfOk result (IsAllOrMore (O.framework oracle.old) (O.log oracle.new) (mode_atom mode) range.now
+        limit) }
+    ensures ran { Ran O.Oracle (λ f. MadeDiffers f (mode_atom mode)) 1 oracle.old oracle.new budget.old budget.new
+        (halt_of result) }
 {
     let _members = oracle.members();
+    let atom = mode_atom(mode);
     let mut listing = Listing {
         sets: Vec::new(alloc),
         asks: Items::new(alloc),
@@ -79,7 +87,7 @@ pub fn all_with_range<O: Oracle>(
         alloc,
         oracle,
         budget,
-        Atom::Ad,
+        atom,
         range,
         limit,
         &mut listing,
@@ -88,7 +96,7 @@ pub fn all_with_range<O: Oracle>(
     if !room {
         return Ok(Listed::TooMany);
     }
-    list_on(alloc, oracle, budget, Atom::Ad, range, limit, listing)
+    list_on(alloc, oracle, budget, atom, range, limit, listing)
 }
 
 /// All sets of the mode with these in their range, of which some are listed, at most so many.
@@ -106,7 +114,8 @@ fn list_on<O: Oracle>(
     requires start { IsListing (O.framework oracle.old) (O.log oracle.old) mode range.now start }
     requires room { length start.sets.items ≤ limit }
     ensures listed { IfOk result (IsAllOrMore (O.framework oracle.old) (O.log oracle.new) mode range.now limit) }
-    ensures ran { Ran O.Oracle MadeDiffers 1 oracle.old oracle.new budget.old budget.new (halt_of result) }
+    ensures ran { Ran O.Oracle (λ f. MadeDiffers f mode) 1 oracle.old oracle.new budget.old budget.new
+        (halt_of result) }
 {
     let _members = oracle.members();
     let mut listing = start;
@@ -145,7 +154,7 @@ fn find_further<O: Oracle>(
     requires range { IsWithin range.now (members (O.framework oracle.old)) }
     requires listing { IsListing (O.framework oracle.old) (O.log oracle.old) mode range.now listing.now }
     ensures further { IfOk result (IsFurtherOf (O.framework oracle.old) (O.log oracle.new) mode range.now listing.now) }
-    ensures ran { Ran O.Oracle MadeDiffers (closes result) oracle.old oracle.new budget.old budget.new
+    ensures ran { Ran O.Oracle (λ f. MadeDiffers f mode) (closes result) oracle.old oracle.new budget.old budget.new
         (halt_of result) }
 {
     let _members = oracle.members();
@@ -175,28 +184,31 @@ fn record_set<O: Oracle>(
         (Found.Set set.now) }
     ensures records { IfOk result (Records (O.framework oracle.old) (O.log oracle.new) mode range.now limit set.now
         listing.old listing.new) }
-    ensures ran { Ran O.Oracle MadeDiffers 0 oracle.old oracle.new budget.old budget.new (halt_of result) }
+    ensures ran { Ran O.Oracle (λ f. MadeDiffers f mode) 0 oracle.old oracle.new budget.old budget.new
+        (halt_of result) }
 {
     let _members = oracle.members();
     insert_in_order(&mut listing.sets, set.copy(alloc)?)?;
     if listing.sets.len() > limit {
         return Ok(false);
     }
-    let ask = oblige_differs(alloc, oracle, budget, set)?;
+    let ask = oblige_differs(alloc, oracle, budget, mode, set)?;
     listing.asks.push(ask)?;
     Ok(true)
 }
 
-/// Keeps the side clause that a set differs from an admissible one, and gives its number.
+/// Keeps the side clause that a set differs from one that was found by the mode, and gives its number.
 fn oblige_differs<O: Oracle>(
     alloc: Global,
     oracle: &mut O,
     budget: &mut Budget,
+    mode: Atom,
     set: &NumSet,
 ) -> Result<AskId, Halt>
-    requires { HoldsOf (O.framework oracle.old) set.now Ad }
+    requires { HoldsOf (O.framework oracle.old) set.now (base_mode mode) }
     ensures asked { IfOk result (IsAskOf (O.log oracle.new).sides (differs_of (O.framework oracle.old) set.now)) }
-    ensures ran { Ran O.Oracle MadeDiffers 0 oracle.old oracle.new budget.old budget.new (halt_of result) }
+    ensures ran { Ran O.Oracle (λ f. MadeDiffers f mode) 0 oracle.old oracle.new budget.old budget.new
+        (halt_of result) }
 {
     let side = differs(alloc, oracle.members(), set)?;
     oracle.oblige(alloc, &side, set, budget)

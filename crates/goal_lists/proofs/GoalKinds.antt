@@ -1,19 +1,23 @@
--- What of the goals depends on the kind of a framework, by cases on it; certificate_claims has the rest, in KindFacts.
+-- What of the goals depends on the kind of a framework or on a mode, by cases on it; certificate_claims has the rest, in
+-- KindFacts and Modes.
 use Rattle.std.proofs.Common.{◌≡◌, ℕ, Bool, true, false, not, List, refl, ap, sym}
 use Rattle.std.specs.Prelude.{Contains}
 use Rattle.std.specs.Cmp.{both_ways}
 use Rattle.std.proofs.lemmas.Bool.{false≢true}
 use Rattle.lists.specs.Members.{IsSetOf}
+use Rattle.semantics.specs.declared.mode.Mode.{Mode}
+use Rattle.semantics.specs.declared.mode.Mode.TheVariants.{Cf, Ad}
 use Rattle.semantics.specs.Frameworks.{Framework, af, aba}
 use Rattle.meaning_atoms.specs.Literals.{affirmed}
 use Rattle.iccma_tasks.specs.declared.task.Kind.TheVariants.{Aba as OfAba}
 use Rattle.iccma_tasks.specs.declared.task.Problem.{Problem}
 use Rattle.iccma_tasks.specs.declared.task.Problem.TheVariants.{Credulous, Sceptical, SomeExtension, AllExtensions}
-use Rattle.iccma_tasks.specs.declared.task.Semantics.TheVariants.{SemiStable, Ideal}
+use Rattle.iccma_tasks.specs.declared.task.Semantics.TheVariants.{Ideal}
 use Rattle.iccma_tasks.specs.Tasks.{HasTask}
+use Rattle.oracle_face.specs.certificate_claims.specs.Claims.{mode_atom, widest_semantics}
 use Rattle.oracle_face.specs.certificate_claims.specs.SetLiterals.{goal, has, is_ranged, members}
 use Rattle.oracle_face.specs.certificate_claims.proofs.SetTests.{has_from, has_gives, ranged_from, ranged_gives}
-use Rattle.oracle_face.specs.Goals.{IsGoal}
+use Rattle.oracle_face.specs.Goals.{IsGoal, IsMode}
 use Rattle.oracle_face.specs.Kinds.{IsRanged, is_assumption_based}
 use Rattle.oracle_face.specs.Logs.{SideClause}
 use Rattle.answer_claims.specs.edit_rules.specs.Fitting.{IsKnown}
@@ -31,12 +35,21 @@ pub known_goal : (f : Framework) (sides : List SideClause) (q : ℕ) (positive :
 known_goal (af f) sides q positive known = known
 known_goal (aba f) sides q positive known = known
 
--- frameworks that have a task about semi-stable sets, or about ideal ones, are abstract
-no_semi_stable : (problem : Problem) → HasTask OfAba problem SemiStable → ⊥
-no_semi_stable Credulous has = has
-no_semi_stable Sceptical has = has
-no_semi_stable SomeExtension has = has
-no_semi_stable AllExtensions has = has
+-- a mode may be asked for
+pub atom_is_mode : (mode : Mode) → IsMode (mode_atom mode)
+atom_is_mode Cf = tt
+atom_is_mode Ad = tt
+
+-- frameworks that have a task about sets with widest ranges, or about ideal ones, are abstract
+no_widest : (mode : Mode) (problem : Problem) → HasTask OfAba problem (widest_semantics mode) → ⊥
+no_widest Cf Credulous has = has
+no_widest Cf Sceptical has = has
+no_widest Cf SomeExtension has = has
+no_widest Cf AllExtensions has = has
+no_widest Ad Credulous has = has
+no_widest Ad Sceptical has = has
+no_widest Ad SomeExtension has = has
+no_widest Ad AllExtensions has = has
 
 no_ideal : (problem : Problem) → HasTask OfAba problem Ideal → ⊥
 no_ideal Credulous has = has
@@ -44,21 +57,21 @@ no_ideal Sceptical has = has
 no_ideal SomeExtension has = has
 no_ideal AllExtensions has = has
 
-pub semi_stable_abstract : (f : Framework) (problem : Problem) → HasTask (kind_of f) problem SemiStable
-    → is_assumption_based f ≡ false
-semi_stable_abstract (af f) problem has = refl
-semi_stable_abstract (aba f) problem has = absurd (no_semi_stable problem has)
+pub widest_abstract : (mode : Mode) (f : Framework) (problem : Problem)
+    → HasTask (kind_of f) problem (widest_semantics mode) → is_assumption_based f ≡ false
+widest_abstract mode (af f) problem has = refl
+widest_abstract mode (aba f) problem has = absurd (no_widest mode problem has)
 
 pub ideal_abstract : (f : Framework) (problem : Problem) → HasTask (kind_of f) problem Ideal
     → is_assumption_based f ≡ false
 ideal_abstract (af f) problem has = refl
 ideal_abstract (aba f) problem has = absurd (no_ideal problem has)
 
--- what is asked about by semi-stable sets is a member of the framework
-pub known_member : (f : Framework) (problem : Problem) (q : ℕ) → HasTask (kind_of f) problem SemiStable → IsKnown f q
-    → Contains (members f) q
-known_member (af f) problem q has known = known
-known_member (aba f) problem q has known = absurd (no_semi_stable problem has)
+-- what is asked about by sets with widest ranges is a member of the framework
+pub known_member : (mode : Mode) (f : Framework) (problem : Problem) (q : ℕ)
+    → HasTask (kind_of f) problem (widest_semantics mode) → IsKnown f q → Contains (members f) q
+known_member mode (af f) problem q has known = known
+known_member mode (aba f) problem q has known = absurd (no_widest mode problem has)
 
 -- the test of a range in an abstract framework is its fact
 pub range_test : (f : Framework) (set range : List ℕ) (x : ℕ) → is_assumption_based f ≡ false

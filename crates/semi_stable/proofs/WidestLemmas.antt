@@ -8,19 +8,22 @@ use Rattle.lists.proofs.Filters.{Contains-filter}
 use Rattle.lists.proofs.Membership.{Contains-nil, Contains-head, Contains-tail, Contains-cons_cases}
 use Rattle.plain_lits.specs.declared.halt.Halt.{Halt}
 use Rattle.plain_lits.proofs.HintCheckLemmas.{Contains-mapped}
+use Rattle.semantics.specs.declared.mode.Mode.{Mode}
 use Rattle.semantics.specs.Frameworks.{Framework, af, aba, IsNumbered}
 use Rattle.meaning_atoms.specs.declared.atom.Atom.{Atom}
-use Rattle.meaning_atoms.specs.declared.atom.Atom.TheVariants.{Member, Live, Attack, Gap, Tail, Unmet, Cf, Ad, Co, St}
-use Rattle.meaning_atoms.specs.declared.atom.Atom.TheVariants.{Range, Ask}
+use Rattle.meaning_atoms.specs.declared.atom.Atom.TheVariants.{Range}
 use Rattle.meaning_atoms.specs.declared.atom.AtomLit.{AtomLit}
-use Rattle.meaning_atoms.specs.Literals.{affirmed, AsksNothing}
-use Rattle.meaning_atoms.specs.Worlds.{HoldsOf, IsAsk, IsTrueAlone, Says, world_of}
+use Rattle.meaning_atoms.specs.Literals.{affirmed}
+use Rattle.meaning_atoms.specs.Worlds.{HoldsOf, IsTrueAlone, Says, world_of}
+use Rattle.certificate_claims.specs.Claims.{mode_atom, range_widest}
 use Rattle.certificate_claims.specs.SetLiterals.{are_ranged, is_ranged, members, range_of, wider}
+use Rattle.certificate_claims.proofs.Modes.{mode_members, mode_plain}
 use Rattle.certificate_claims.proofs.SetTests.{ranged_from, ranged_gives}
+use Rattle.certificate_claims.proofs.SideClauses.{ranged_plain}
 use Rattle.certificate_claims.proofs.RangeLists.{range_is}
 use Rattle.oracle_face.specs.declared.face.Found.{Found}
 use Rattle.oracle_face.specs.declared.face.Found.TheVariants.{Set, Refuted}
-use Rattle.oracle_face.specs.Goals.{IsClaimSide, IsMode, IsSide, SpeaksOf}
+use Rattle.oracle_face.specs.Goals.{IsClaimSide, IsSide, SpeaksOf}
 use Rattle.oracle_face.specs.Growing.{IsFound, OnlySide}
 use Rattle.oracle_face.specs.Kinds.{IsRanged, is_assumption_based}
 use Rattle.oracle_face.specs.Logs.{IsSameClause, OracleLog}
@@ -28,27 +31,15 @@ use Rattle.oracle_face.proofs.GrowingLemmas.{Makes}
 use Rattle.oracle_face.proofs.Refuting.{refutes_claim}
 use Rattle.goal_lists.specs.Asking.{goals_of, IsAskableBeside}
 use Rattle.goal_lists.specs.Sides.{IsAskOf, IsFoundBeside}
-use Rattle.goal_lists.proofs.AskedGoals.{asked_there, asked_true, ranged_form, wider_form, wider_side, wider_speaks}
+use Rattle.goal_lists.proofs.AskedGoals.{asked_there, asked_true, wider_form, wider_side, wider_speaks}
 use Rattle.goal_lists.proofs.AskedGoals.{within_claim}
 use Rattle.goal_lists.proofs.Calls.{found_mode, found_range}
+use Rattle.goal_lists.proofs.GoalKinds.{atom_is_mode}
 use Rattle.goal_lists.proofs.Measures.{not_true, strictly_fewer}
 use Rattle.goal_lists.proofs.SideLemmas.{ask_claim, beside_means, this_one}
-use Rattle.semi_stable.specs.Widest.{IsRangeIn, IsWider, MadeWider, wider_claim}
+use Rattle.semi_stable.specs.Widest.{IsRangeIn, IsWider, MadeWider}
 
 -- ---- sets and ranges
-
--- a set of any mode has members of the framework alone
-pub mode_within : (f : Framework) (s : List ℕ) (mode : Atom) → IsMode mode → HoldsOf f s mode → IsWithin s (members f)
-mode_within (af f) s Cf is h = h.live
-mode_within (af f) s Ad is h = h.conflict_free.live
-mode_within (af f) s Co is h = h.admissible.conflict_free.live
-mode_within (af f) s St is h = h.conflict_free.live
-mode_within (af f) s _ is h = absurd is
-mode_within (aba f) s Cf is h = h.live
-mode_within (aba f) s Ad is h = h.conflict_free.live
-mode_within (aba f) s Co is h = h.admissible.conflict_free.live
-mode_within (aba f) s St is h = h.conflict_free.live
-mode_within (aba f) s _ is h = absurd is
 
 -- the range of a set of an abstract framework as a list
 pub range_list : (f : Framework) (s r : List ℕ) → is_assumption_based f ≡ false → IsNumbered f
@@ -68,43 +59,41 @@ range_within f s r kind ok live is a c =
 pub wider_is_side : (f : Framework) (e : List ℕ) (side : List AtomLit) → IsNumbered f → side ≡ wider f e → IsSide side
 wider_is_side f e side ok is = subst IsSide (sym is) (wider_side f e ok)
 
-pub makes_wider : (f : Framework) (mode : Atom) (e : List ℕ) (side : List AtomLit) → HoldsOf f e mode
+pub makes_wider : (f : Framework) (mode : Mode) (e : List ℕ) (side : List AtomLit) → HoldsOf f e (mode_atom mode)
     → side ≡ wider f e → Makes (OnlySide side e) (MadeWider f mode)
 makes_wider f mode e side h same literals set made = (
-  subst (λ (s : List ℕ). HoldsOf f s mode) (sym made.1) h,
+  subst (λ (s : List ℕ). HoldsOf f s (mode_atom mode)) (sym made.1) h,
   subst (λ (clause : List AtomLit). IsSameClause literals clause) (same ∙ ap (wider f) (sym made.1)) made.0,
 )
 
 -- what a look is about: a set of a mode with its range, in an abstract framework in its form
-pub record IsLook (f : Framework) (mode : Atom) (e r : List ℕ) : Type 0 where
+pub record IsLook (f : Framework) (mode : Mode) (e r : List ℕ) : Type 0 where
   pub kind : is_assumption_based f ≡ false
   pub numbered : IsNumbered f
-  pub mode_is : IsMode mode
-  pub holds : HoldsOf f e mode
+  pub holds : HoldsOf f e (mode_atom mode)
   pub range : IsSetOf (IsRanged f e) r
 
-pub look_at : (f : Framework) (mode : Atom) (e r : List ℕ) → is_assumption_based f ≡ false → IsNumbered f → IsMode mode
-    → HoldsOf f e mode → IsSetOf (IsRanged f e) r → IsLook f mode e r
-look_at f mode e r kind numbered mode_is holds range = record {
+pub look_at : (f : Framework) (mode : Mode) (e r : List ℕ) → is_assumption_based f ≡ false → IsNumbered f
+    → HoldsOf f e (mode_atom mode) → IsSetOf (IsRanged f e) r → IsLook f mode e r
+look_at f mode e r kind numbered holds range = record {
   kind = kind;
   numbered = numbered;
-  mode_is = mode_is;
   holds = holds;
   range = range;
 }
 
-pub look_beside : (f : Framework) (mode : Atom) (e r ranged : List ℕ) (side : List AtomLit) → ranged ≡ r
-    → side ≡ wider f e → IsLook f mode e r → IsAskableBeside f mode [] [] ranged side
-look_beside f mode e r ranged side is made look =
-    subst (λ (xs : List ℕ). IsAskableBeside f mode [] [] xs side) (sym is) (record {
-      moded = look.mode_is;
+pub look_beside : (f : Framework) (mode : Mode) (e r ranged : List ℕ) (side : List AtomLit) (atom : Atom) → ranged ≡ r
+    → side ≡ wider f e → atom ≡ mode_atom mode → IsLook f mode e r → IsAskableBeside f atom [] [] ranged side
+look_beside f mode e r ranged side atom is made of_mode look =
+    subst (λ (a : Atom). IsAskableBeside f a [] [] ranged side) (sym of_mode)
+    (subst (λ (xs : List ℕ). IsAskableBeside f (mode_atom mode) [] [] xs side) (sym is) (record {
+      moded = atom_is_mode mode;
       in_members = λ a c. absurd (Contains-nil a c);
       out_members = λ a c. absurd (Contains-nil a c);
-      ranged_members = range_within f e r look.kind look.numbered
-          (mode_within f e mode look.mode_is look.holds) look.range;
+      ranged_members = range_within f e r look.kind look.numbered (mode_members mode f e look.holds) look.range;
       apart = λ a c d. absurd (Contains-nil a c);
       speaks = subst (SpeaksOf f) (sym made) (wider_speaks f e);
-    })
+    }))
 
 -- ---- what is found
 
@@ -141,54 +130,45 @@ further_ranged f e set kind t =
       λ h. m.2 (ranged_test f e m.0 kind h),
     )
 
-mode_asks_nothing : (mode : Atom) → IsMode mode → IsAsk mode → ⊥
-mode_asks_nothing (Ask n) is ask = is
-mode_asks_nothing _ is ask = ask
-
-claim_plain : (mode : Atom) (r : List ℕ) → IsMode mode → AsksNothing (affirmed mode ∷ are_ranged r)
-claim_plain mode r is l c ask = ⊎_elim
-    (λ (e : affirmed mode ≡ l). mode_asks_nothing mode is (subst (λ (k : AtomLit). IsAsk k.atom) (sym e) ask))
-    (λ later.
-    let m = ranged_form r l later in
-    let none : IsAsk (Range m.0) = subst (λ (k : AtomLit). IsAsk k.atom) (sym m.2) ask in none)
-    (Contains-cons_cases (affirmed mode) (are_ranged r) l c)
-
-found_wider : (f : Framework) (log : OracleLog) (mode : Atom) (e r : List ℕ) (n : ℕ) → IsLook f mode e r
-    → IsAskOf log.sides (wider f e) n → (found : Found) → IsFound f log (goals_of mode [] [] r (n ∷ [])) found
-    → IsWider f log mode e found
-found_wider f log mode e r n look asks (Set set) makes = (
-  found_mode f log mode [] [] r (n ∷ []) set look.mode_is makes,
-  all_ranged f log mode e r n set look.kind look.range makes,
-  further_ranged f e set look.kind
-      (asked_true f log (goals_of mode [] [] r (n ∷ [])) set n (wider f e)
-      (asked_there mode [] [] r (n ∷ []) n (Contains-head n [] n refl)) asks.number asks.same makes),
-)
+found_wider : (f : Framework) (log : OracleLog) (mode : Mode) (e r : List ℕ) (n : ℕ) → IsLook f mode e r
+    → IsAskOf log.sides (wider f e) n → (found : Found)
+    → IsFound f log (goals_of (mode_atom mode) [] [] r (n ∷ [])) found → IsWider f log mode e found
+found_wider f log mode e r n look asks (Set set) makes =
+    let atom = mode_atom mode in (
+      found_mode f log atom [] [] r (n ∷ []) set (atom_is_mode mode) makes,
+      all_ranged f log atom e r n set look.kind look.range makes,
+      further_ranged f e set look.kind
+          (asked_true f log (goals_of atom [] [] r (n ∷ [])) set n (wider f e)
+          (asked_there atom [] [] r (n ∷ []) n (Contains-head n [] n refl)) asks.number asks.same makes),
+    )
 found_wider f log mode e r n look asks (Refuted step) refuted =
-    let same = range_list f e r look.kind look.numbered (mode_within f e mode look.mode_is look.holds) look.range in
+    let atom = mode_atom mode in
+    let claim = range_widest f mode e in
+    let same = range_list f e r look.kind look.numbered (mode_members mode f e look.holds) look.range in
     let ranged = are_ranged (range_of f e) in
-    refutes_claim f log (wider_claim f mode e) (goals_of mode [] [] r (n ∷ [])) step
-    (claim_plain mode (range_of f e) look.mode_is)
-    (within_claim log.sides (wider_claim f mode e) mode [] [] r (n ∷ []) (record {
-      has_mode = Contains-head (affirmed mode) ranged (affirmed mode) refl;
+    refutes_claim f log claim (goals_of atom [] [] r (n ∷ [])) step
+    (mode_plain mode ranged (ranged_plain (range_of f e)))
+    (within_claim log.sides claim atom [] [] r (n ∷ []) (record {
+      has_mode = Contains-head (affirmed atom) ranged (affirmed atom) refl;
       has_ins = λ a c. absurd (Contains-nil a c);
       has_outs = λ a c. absurd (Contains-nil a c);
-      has_ranged = λ a c. Contains-tail (affirmed mode) ranged (affirmed (Range a))
+      has_ranged = λ a c. Contains-tail (affirmed atom) ranged (affirmed (Range a))
           (Contains-mapped (λ x. affirmed (Range x)) (range_of f e) a
           (subst (λ (xs : List ℕ). Contains xs a) same c));
-      has_asks = this_one (IsClaimSide log.sides (wider_claim f mode e)) n
-          (ask_claim log.sides (wider_claim f mode e) (wider f e) n
-          (Contains-head (wider f e) [] (wider f e) refl) asks);
+      has_asks = this_one (IsClaimSide log.sides claim) n
+          (ask_claim log.sides claim (wider f e) n (Contains-head (wider f e) [] (wider f e) refl) asks);
     })) refuted
 
-pub if_wider : (f : Framework) (log : OracleLog) (mode : Atom) (e r ranged : List ℕ) (side : List AtomLit)
-    → ranged ≡ r → side ≡ wider f e → IsLook f mode e r → (found : Result Found Halt)
-    → IfOk found (IsFoundBeside f log mode [] [] ranged side) → IfOk found (IsWider f log mode e)
-if_wider f log mode e r ranged side is made look found h =
-    beside_means f log mode [] [] r side (wider f e) (IsWider f log mode e) made
+pub if_wider : (f : Framework) (log : OracleLog) (mode : Mode) (e r ranged : List ℕ) (side : List AtomLit) (atom : Atom)
+    → ranged ≡ r → side ≡ wider f e → atom ≡ mode_atom mode → IsLook f mode e r → (found : Result Found Halt)
+    → IfOk found (IsFoundBeside f log atom [] [] ranged side) → IfOk found (IsWider f log mode e)
+if_wider f log mode e r ranged side atom is made of_mode look found h =
+    beside_means f log (mode_atom mode) [] [] r side (wider f e) (IsWider f log mode e) made
     (λ n one asks k. found_wider f log mode e r n look asks one k) found
-    (subst (λ (xs : List ℕ). IfOk found (IsFoundBeside f log mode [] [] xs side)) is h)
+    (subst (λ (xs : List ℕ). IfOk found (IsFoundBeside f log (mode_atom mode) [] [] xs side)) is
+    (subst (λ (a : Atom). IfOk found (IsFoundBeside f log a [] [] ranged side)) of_mode h))
 
-pub wider_set : (f g : Framework) (log : OracleLog) (mode : Atom) (e : List ℕ) (r : Found) (set : List ℕ) → g ≡ f
+pub wider_set : (f g : Framework) (log : OracleLog) (mode : Mode) (e : List ℕ) (r : Found) (set : List ℕ) → g ≡ f
     → r ≡ Set set → IsWider g log mode e r → IsWider f log mode e (Set set)
 wider_set f g log mode e r set same is h =
     subst (λ (x : Framework). IsWider x log mode e (Set set)) same (subst (IsWider g log mode e) is h)
@@ -210,7 +190,7 @@ has_no_range f s x kind out h =
     false≢true (sym (not_true (is_ranged f s x) e) ∙ out)
 
 -- a wider range leaves fewer out
-pub fewer_open : (f : Framework) (log : OracleLog) (mode : Atom) (s t : List ℕ) → is_assumption_based f ≡ false
+pub fewer_open : (f : Framework) (log : OracleLog) (mode : Mode) (s t : List ℕ) → is_assumption_based f ≡ false
     → IsWider f log mode s (Set t) → open_count f t < open_count f s
 fewer_open f log mode s t kind h =
     let more = h.2 in

@@ -2,19 +2,19 @@
 
 ghost use Rattle.std.specs.Prelude.{◌≡◌, false, IfOk};
 ghost use Rattle.lists.specs.Members.{IsSetOf};
-ghost use Rattle.meaning_atoms.specs.declared.atom.Atom.TheVariants.{Ad};
 ghost use Rattle.meaning_atoms.specs.Worlds.{HoldsOf};
+ghost use Rattle.certificate_claims.specs.Claims.{mode_atom};
 ghost use Rattle.certificate_claims.specs.SetLiterals.{wider as wider_of};
-ghost use Rattle.oracle_face.specs.Goals.{IsMode};
 ghost use Rattle.oracle_face.specs.Growing.{closes, halt_of};
 ghost use Rattle.oracle_face.specs.Kinds.{IsRanged, is_assumption_based};
 ghost use Rattle.semi_stable.specs.Widest.{HasRange, IsWider, IsWidestFrom, MadeWider};
 ghost use Rattle.goal_lists.specs.Sides.{IsAskOf};
 ghost use Rattle.goal_lists.specs.Runs.{Ran};
 
+use certificate_claims::mode_atom;
 use goal_lists::{Wanted, search_beside, wider as wider_than};
-use meaning_atoms::Atom;
 use oracle_face::{AskId, Budget, Found, Halt, Oracle, StepId};
+use semantics::Mode;
 use set_lists::NumSet;
 use std::alloc::Global;
 
@@ -32,13 +32,12 @@ fn wider<O: Oracle>(
     alloc: Global,
     oracle: &mut O,
     budget: &mut Budget,
-    mode: Atom,
+    mode: Mode,
     set: &NumSet,
     range: &NumSet,
 ) -> Result<Found, Halt>
     requires kind { is_assumption_based (O.framework oracle.old) ≡ false }
-    requires mode { IsMode mode }
-    requires holds { HoldsOf (O.framework oracle.old) set.now mode }
+    requires holds { HoldsOf (O.framework oracle.old) set.now (mode_atom mode) }
     requires range { IsSetOf (IsRanged (O.framework oracle.old) set.now) range.now }
     ensures wider { IfOk result (IsWider (O.framework oracle.old) (O.log oracle.new) mode set.now) }
     ensures ran { Ran O.Oracle (λ f. MadeWider f mode) (closes result) oracle.old oracle.new budget.old budget.new
@@ -51,23 +50,23 @@ fn wider<O: Oracle>(
         ranged: range.as_slice(),
         asks: &[],
     };
-    search_beside(alloc, oracle, budget, mode, &wanted, &side, set)
+    search_beside(alloc, oracle, budget, mode_atom(mode), &wanted, &side, set)
 }
 
 /// Grows a set of a mode, in an abstract framework, to one whose range holds that of the set and is part of no other of
-/// the mode: by the mode `Ad` a semi-stable set, by `Cf` a stage set. The search goes on from what each search finds:
-/// where the range grows k times, it asks k + 1 times. The halt is the oracle's, or want of memory; the oracle keeps
+/// the mode: by the mode `Cf` a stage set, by `Ad` a semi-stable set. The search goes on from what each search finds:
+/// where the range grows k times, it asks k + 1 times. An oracle that tries members first finds a set that holds as
+/// much as it can, and so grows the range far at once. The halt is the oracle's, or want of memory; the oracle keeps
 /// what it has learned.
-pub fn widest_from<O: Oracle>(
+pub fn widest_in<O: Oracle>(
     alloc: Global,
     oracle: &mut O,
     budget: &mut Budget,
-    mode: Atom,
+    mode: Mode,
     set: &NumSet,
 ) -> Result<Widest, Halt>
     requires kind { is_assumption_based (O.framework oracle.old) ≡ false }
-    requires mode { IsMode mode }
-    requires holds { HoldsOf (O.framework oracle.old) set.now mode }
+    requires holds { HoldsOf (O.framework oracle.old) set.now (mode_atom mode) }
     ensures widest { IfOk result (IsWidestFrom (O.framework oracle.old) (O.log oracle.new) mode set.now) }
     ensures ran { Ran O.Oracle (λ f. MadeWider f mode) 1 oracle.old oracle.new budget.old budget.new (halt_of result) }
 {
@@ -88,16 +87,17 @@ pub fn widest_from<O: Oracle>(
     }
 }
 
-/// Keeps the side clause that something is in the range that isn't in that of a set, and gives its number.
+/// Keeps the side clause that something is in the range that isn't in that of a set of the mode, and gives its number.
 pub fn oblige_wider<O: Oracle>(
     alloc: Global,
     oracle: &mut O,
     budget: &mut Budget,
+    mode: Mode,
     widest: &Widest,
 ) -> Result<AskId, Halt>
-    requires { HasRange (O.framework oracle.old) widest.now }
+    requires { HasRange (O.framework oracle.old) mode widest.now }
     ensures asked { IfOk result (IsAskOf (O.log oracle.new).sides (wider_of (O.framework oracle.old) widest.now.set)) }
-    ensures ran { Ran O.Oracle (λ f. MadeWider f Ad) 0 oracle.old oracle.new budget.old budget.new (halt_of result) }
+    ensures ran { Ran O.Oracle (λ f. MadeWider f mode) 0 oracle.old oracle.new budget.old budget.new (halt_of result) }
 {
     let side = wider_than(alloc, oracle.members(), &widest.range)?;
     oracle.oblige(alloc, &side, &widest.set, budget)

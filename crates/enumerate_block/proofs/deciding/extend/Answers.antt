@@ -9,8 +9,8 @@ use Rattle.enumerate_block.proofs.deciding.extend.Goals as goal
 
 pub returns-in-Set-clause-extends : goal.returns-in-Set-clause-extends
 returns-in-Set-clause-extends g c =
-    found_witness (g.O.Oracle.framework c.args.oracle.now) (g.O.Oracle.framework c.widest_from.new.oracle)
-    (g.O.Oracle.framework c.within_range.new.oracle) (g.O.Oracle.log c.widest_from.new.oracle)
+    found_witness c.args.mode (g.O.Oracle.framework c.args.oracle.now) (g.O.Oracle.framework c.widest_in.new.oracle)
+    (g.O.Oracle.framework c.within_range.new.oracle) (g.O.Oracle.log c.widest_in.new.oracle)
     (g.O.Oracle.log c.within_range.new.oracle) _ c.args.goal c.args.accepted c.args.set.now c.in-Set.set
     c.in_ok-widest.widest c.in_ok-set.field-0 c.requires.kind c.in_ok-widest.ensures.ran.framework
     c.in_ok-set.ensures.ran.framework c.in_ok-widest.ensures.ran.kept c.in_ok-set.ensures.ran.kept
@@ -19,17 +19,17 @@ returns-in-Set-clause-extends g c =
 
 pub returns-in_ok-take_range-in-Refuted-clause-extends : goal.returns-in_ok-take_range-in-Refuted-clause-extends
 returns-in_ok-take_range-in-Refuted-clause-extends g c =
-    taken (g.O.Oracle.framework c.args.oracle.now) (g.O.Oracle.framework c.widest_from.new.oracle)
+    taken c.args.mode (g.O.Oracle.framework c.args.oracle.now) (g.O.Oracle.framework c.widest_in.new.oracle)
     (g.O.Oracle.framework c.within_range.new.oracle) (g.O.Oracle.log c.args.oracle.now)
-    (g.O.Oracle.log c.widest_from.new.oracle) (g.O.Oracle.log c.within_range.new.oracle)
+    (g.O.Oracle.log c.widest_in.new.oracle) (g.O.Oracle.log c.within_range.new.oracle)
     (g.O.Oracle.log c.take_range.new.oracle) _ c.args.goal c.args.accepted c.args.cover.now c.take_range.new.cover
     c.args.set.now c.in_ok-widest.widest c.in_ok-set.field-0 c.in-Refuted.step c.in_ok-widest.ensures.ran.framework
     c.in_ok-set.ensures.ran.framework c.in_ok-set.ensures.ran.kept c.in_ok-take_range-in-Refuted.ensures.ran.run.grows
     c.requires.set c.in_ok-widest.ensures.widest c.in-Refuted.is c.in_ok-set.ensures.within
     c.in_ok-take_range-in-Refuted.ensures.takes
 
-pub widest_from-requires-clause-holds : goal.widest_from-requires-clause-holds
-widest_from-requires-clause-holds g c = c.requires.set.0
+pub widest_in-requires-clause-holds : goal.widest_in-requires-clause-holds
+widest_in-requires-clause-holds g c = c.requires.set.0
 
 pub within_range-requires-clause-goal : goal.within_range-requires-clause-goal
 within_range-requires-clause-goal g c =

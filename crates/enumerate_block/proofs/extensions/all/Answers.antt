@@ -1,6 +1,11 @@
+use Rattle.semantics.specs.declared.mode.Mode.TheVariants.{Cf, Ad}
 use Rattle.enumerate_block.proofs.ExtensionLemmas.{list_abstract}
 use Rattle.enumerate_block.proofs.extensions.all.Goals as goal
 
-pub all_widest-requires : goal.all_widest-requires
-all_widest-requires g c =
-    list_abstract (g.O.Oracle.framework c.args.oracle.now) c.args.task c.requires c.in-SemiStable.is
+pub all_ranged-requires : goal.all_ranged-requires
+all_ranged-requires g c =
+    list_abstract Ad (g.O.Oracle.framework c.args.oracle.now) c.args.task c.requires c.in-SemiStable.is
+
+pub all_ranged-2-requires : goal.all_ranged-2-requires
+all_ranged-2-requires g c =
+    list_abstract Cf (g.O.Oracle.framework c.args.oracle.now) c.args.task c.requires c.in-Stage.is

@@ -7,37 +7,39 @@ use Rattle.goal_lists.specs.Sides.{IsAskOf}
 use Rattle.certificate_claims.specs.SetLiterals.{wider}
 use Rattle.enumerate_block.proofs.ranges.grow_range.Goals as goal
 
-pub widest_from-requires-clause-holds : goal.widest_from-requires-clause-holds
-widest_from-requires-clause-holds g c = c.requires.set.0
+pub widest_in-requires-clause-holds : goal.widest_in-requires-clause-holds
+widest_in-requires-clause-holds g c = c.requires.set.0
 
 pub oblige_wider-requires : goal.oblige_wider-requires
 oblige_wider-requires g c =
     let w = c.in_ok-widest.widest in
-    subst (λ (x : Framework). HasRange x w) (sym c.in_ok-widest.ensures.ran.framework)
+    subst (λ (x : Framework). HasRange x c.args.mode w) (sym c.in_ok-widest.ensures.ran.framework)
     (record {
       kind = c.requires.kind;
-      admissible = c.in_ok-widest.ensures.widest.has_mode;
+      has_mode = c.in_ok-widest.ensures.widest.has_mode;
       range = c.in_ok-widest.ensures.widest.range;
     })
 
 pub returns-in_err-widest-clause-ran : goal.returns-in_err-widest-clause-ran
-returns-in_err-widest-clause-ran g c = ran_handed _ c.from_residual.ensures (as_widest c.in_err-widest.ensures.ran)
+returns-in_err-widest-clause-ran g c = ran_handed _ c.from_residual.ensures (as_widest c.args.mode
+    c.in_err-widest.ensures.ran)
 
 pub returns-in_err-ask-clause-ran : goal.returns-in_err-ask-clause-ran
 returns-in_err-ask-clause-ran g c =
     ran_handed _ c.from_residual-in_err-ask.ensures
-    (as_widest (ran_then {most = 1} g.met.O.Oracle.joins (omega arith) c.in_ok-widest.ensures.ran
+    (as_widest c.args.mode (ran_then {most = 1} g.met.O.Oracle.joins (omega arith) c.in_ok-widest.ensures.ran
     c.in_err-ask.ensures.ran))
 
 pub returns-in_err-push-clause-ran : goal.returns-in_err-push-clause-ran
 returns-in_err-push-clause-ran g c =
     ran_lost _ c.from_residual-in_err-push.ensures (omega arith)
-    (as_widest (ran_then {most = 1} g.met.O.Oracle.joins (omega arith) c.in_ok-widest.ensures.ran
+    (as_widest c.args.mode (ran_then {most = 1} g.met.O.Oracle.joins (omega arith) c.in_ok-widest.ensures.ran
     c.in_ok-ask.ensures.ran))
 
 pub returns-clause-ran : goal.returns-clause-ran
 returns-clause-ran g c =
-    as_widest (ran_then g.met.O.Oracle.joins (omega arith) c.in_ok-widest.ensures.ran c.in_ok-ask.ensures.ran)
+    as_widest c.args.mode (ran_then g.met.O.Oracle.joins (omega arith) c.in_ok-widest.ensures.ran
+    c.in_ok-ask.ensures.ran)
 
 pub returns-clause-grows : goal.returns-clause-grows
 returns-clause-grows g c =
@@ -46,7 +48,8 @@ returns-clause-grows g c =
     let w = c.in_ok-widest.widest in
     let ran = c.in_ok-widest.ensures.ran in
     record {
-      is_widest = widest_kept f _ log _ _ c.args.set.now w ran.framework ran.kept c.in_ok-ask.ensures.ran.run.grows
+      is_widest = widest_kept c.args.mode f _ log _ _ c.args.set.now w ran.framework ran.kept
+      c.in_ok-ask.ensures.ran.run.grows
           c.in_ok-widest.ensures.widest;
       sets = refl;
       marks = refl;

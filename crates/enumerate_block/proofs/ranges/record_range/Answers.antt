@@ -10,7 +10,7 @@ grow_range-requires-clause-kind g c = c.requires.found.kind
 
 pub all_with_range-requires-clause-range : goal.all_with_range-requires-clause-range
 all_with_range-requires-clause-range g c =
-    range_fits (g.O.Oracle.framework c.args.oracle.now) (g.O.Oracle.framework c.grow_range.new.oracle)
+    range_fits c.args.mode (g.O.Oracle.framework c.args.oracle.now) (g.O.Oracle.framework c.grow_range.new.oracle)
     (g.O.Oracle.log c.grow_range.new.oracle) c.args.set.now c.as_slice.result.now c.in_ok-widest.widest
     c.requires.found.kind c.in_ok-widest.ensures.ran.framework c.in_ok-widest.ensures.ran.kept c.as_slice.ensures.value
     c.in_ok-widest.ensures.grows.is_widest
@@ -18,13 +18,13 @@ all_with_range-requires-clause-range g c =
 pub all_with_range-requires-clause-known : goal.all_with_range-requires-clause-known
 all_with_range-requires-clause-known g c =
     range_known (g.O.Oracle.framework c.args.oracle.now) (g.O.Oracle.framework c.grow_range.new.oracle)
-    (g.O.Oracle.log c.grow_range.new.oracle) c.args.set.now c.as_slice.result.now c.in_ok-widest.widest
+    (g.O.Oracle.log c.grow_range.new.oracle) c.args.mode c.args.set.now c.as_slice.result.now c.in_ok-widest.widest
     c.requires.found.kind c.in_ok-widest.ensures.ran.framework c.as_slice.ensures.value
     c.in_ok-widest.ensures.grows.is_widest
 
 pub returns-in-TooMany-clause-records : goal.returns-in-TooMany-clause-records
 returns-in-TooMany-clause-records g c =
-    more_grown (g.O.Oracle.framework c.args.oracle.now) (g.O.Oracle.framework c.grow_range.new.oracle)
+    more_grown c.args.mode (g.O.Oracle.framework c.args.oracle.now) (g.O.Oracle.framework c.grow_range.new.oracle)
     (g.O.Oracle.log c.args.oracle.now) (g.O.Oracle.log c.grow_range.new.oracle)
     (g.O.Oracle.log c.all_with_range.new.oracle) c.args.limit c.args.found.now c.grow_range.new.found c.args.set.now
     c.as_slice.result.now c.in_ok-widest.widest (c.args.limit - c.len.result) c.in_ok-all_with_range.field-0
@@ -35,7 +35,7 @@ returns-in-TooMany-clause-records g c =
 
 pub insert_all-requires-clause-apart : goal.insert_all-requires-clause-apart
 insert_all-requires-clause-apart g c =
-    apart_grown (g.O.Oracle.framework c.args.oracle.now) (g.O.Oracle.framework c.grow_range.new.oracle)
+    apart_grown c.args.mode (g.O.Oracle.framework c.args.oracle.now) (g.O.Oracle.framework c.grow_range.new.oracle)
     (g.O.Oracle.log c.args.oracle.now) (g.O.Oracle.log c.grow_range.new.oracle)
     (g.O.Oracle.log c.all_with_range.new.oracle) c.args.found.now c.grow_range.new.found c.args.set.now
     c.as_slice.result.now c.in_ok-widest.widest (c.args.limit - c.len.result) c.in-Whole.step c.in-Whole.sets
@@ -47,7 +47,7 @@ insert_all-requires-clause-apart g c =
 
 pub returns-clause-records : goal.returns-clause-records
 returns-clause-records g c =
-    gains_grown (g.O.Oracle.framework c.args.oracle.now) (g.O.Oracle.framework c.grow_range.new.oracle)
+    gains_grown c.args.mode (g.O.Oracle.framework c.args.oracle.now) (g.O.Oracle.framework c.grow_range.new.oracle)
     (g.O.Oracle.log c.args.oracle.now) (g.O.Oracle.log c.grow_range.new.oracle)
     (g.O.Oracle.log c.all_with_range.new.oracle) c.args.limit c.args.found.now c.grow_range.new.found
     (record { sets = c.insert_all.new.sets; marks = c.insert_all.new.marks; asks = c.grow_range.new.found.asks })
@@ -71,20 +71,20 @@ pub returns-in_err-all_with_range-clause-ran : goal.returns-in_err-all_with_rang
 returns-in_err-all_with_range-clause-ran g c =
     then_handed g.met.O.Oracle.joins _ c.from_residual-in_err-all_with_range.ensures
     (omega arith) c.in_ok-widest.ensures.ran
-    (as_listed c.in_err-all_with_range.ensures.ran)
+    (as_listed c.args.mode c.in_err-all_with_range.ensures.ran)
 
 pub returns-in-TooMany-clause-ran : goal.returns-in-TooMany-clause-ran
 returns-in-TooMany-clause-ran g c =
-    ran_then g.met.O.Oracle.joins (omega arith) c.in_ok-widest.ensures.ran (as_listed
+    ran_then g.met.O.Oracle.joins (omega arith) c.in_ok-widest.ensures.ran (as_listed c.args.mode
     c.in_ok-all_with_range.ensures.ran)
 
 pub returns-in_err-insert_all-in-Whole-clause-ran : goal.returns-in_err-insert_all-in-Whole-clause-ran
 returns-in_err-insert_all-in-Whole-clause-ran g c =
     ran_lost _ c.from_residual-in_err-insert_all-in-Whole.ensures (omega arith)
     (ran_then {most = 2} g.met.O.Oracle.joins (omega arith) c.in_ok-widest.ensures.ran
-    (as_listed c.in_ok-all_with_range.ensures.ran))
+    (as_listed c.args.mode c.in_ok-all_with_range.ensures.ran))
 
 pub returns-clause-ran : goal.returns-clause-ran
 returns-clause-ran g c =
-    ran_then g.met.O.Oracle.joins (omega arith) c.in_ok-widest.ensures.ran (as_listed
+    ran_then g.met.O.Oracle.joins (omega arith) c.in_ok-widest.ensures.ran (as_listed c.args.mode
     c.in_ok-all_with_range.ensures.ran)

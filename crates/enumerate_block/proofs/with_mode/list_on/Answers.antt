@@ -23,7 +23,7 @@ returns-in-Refuted-clause-listed g c =
     c.args.mode
     c.args.range.now c.args.limit c.loop-listing.listing c.in_ok-step.field-0 c.in-Refuted.step inv.ran.framework
     (c.in_ok-step.ensures.ran.framework ∙ inv.ran.framework) c.in_ok-step.ensures.ran.kept c.requires.mode
-    (listing_grown f (MadeDiffers h) (g.O.Oracle.log c.loop-listing.oracle) (g.O.Oracle.log c.find_further.new.oracle)
+    (listing_grown f (MadeDiffers h c.args.mode) (g.O.Oracle.log c.loop-listing.oracle) (g.O.Oracle.log c.find_further.new.oracle)
     c.args.mode c.args.range.now c.loop-listing.listing c.in_ok-step.ensures.ran.run.grows inv.listing)
     c.in-Refuted.is c.in_ok-step.ensures.further inv.room
 
@@ -32,7 +32,7 @@ record_set-requires-clause-listing g c =
     let f = g.O.Oracle.framework c.args.oracle.now in
     let h = g.O.Oracle.framework c.loop-listing.oracle in
     let inv = c.loop-listing.invariant in
-    listing_kept f h (g.O.Oracle.framework c.find_further.new.oracle) (MadeDiffers h)
+    listing_kept f h (g.O.Oracle.framework c.find_further.new.oracle) (MadeDiffers h c.args.mode)
     (g.O.Oracle.log c.loop-listing.oracle)
     (g.O.Oracle.log c.find_further.new.oracle) c.args.mode c.args.range.now c.loop-listing.listing inv.ran.framework
     c.in_ok-step.ensures.ran.framework c.in_ok-step.ensures.ran.run.grows inv.listing

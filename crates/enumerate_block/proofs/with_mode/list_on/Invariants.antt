@@ -9,7 +9,7 @@ abbrev pub invariant-loop-listing : goal.invariant-loop-listing
 invariant-loop-listing g l = record {
   listing : IsListing (g.O.Oracle.framework l.fn.oracle) (g.O.Oracle.log l.oracle) l.mode l.range l.listing;
   room : length l.listing.sets.items ≤ l.limit;
-  ran : Ran g.O.Oracle MadeDiffers 0 l.fn.oracle l.oracle l.fn.budget l.budget None;
+  ran : Ran g.O.Oracle (λ f. MadeDiffers f l.mode) 0 l.fn.oracle l.oracle l.fn.budget l.budget None;
 }
 
 abbrev pub decreases-loop-listing : goal.decreases-loop-listing

@@ -1,7 +1,7 @@
 use Rattle.std.proofs.Common.{arith, length, subst, ◌<◌, ◌≤◌}
 use Rattle.std.specs.Prelude.{Contains}
 use Rattle.enumerate_block.specs.Ordered.{GainsInOrder}
-use Rattle.enumerate_block.proofs.ModeLemmas.{has_more, listing_grown, listing_more, mode_admissible, not_there}
+use Rattle.enumerate_block.proofs.ModeLemmas.{has_more, listing_grown, listing_more, mode_base, not_there}
 use Rattle.goal_lists.proofs.RunLemmas.{ran_handed, ran_lost, ran_none, ran_nothing}
 use Rattle.enumerate_block.proofs.with_mode.record_set.Goals as goal
 
@@ -23,7 +23,7 @@ returns-then-len-limit-clause-records g c =
 
 pub oblige_differs-requires : goal.oblige_differs-requires
 oblige_differs-requires g c =
-    mode_admissible _ c.args.set.now c.args.mode c.members-members.ensures.kept.numbered c.requires.mode
+    mode_base _ c.args.set.now c.args.mode c.members-members.ensures.kept.numbered c.requires.mode
     c.requires.set.0.has_mode
 
 pub returns-in_err-copy-clause-ran : goal.returns-in_err-copy-clause-ran

@@ -1,6 +1,5 @@
 use Rattle.std.proofs.Common.{◌∙◌, arith}
 use Rattle.std.proofs.lemmas.Result.{IfOk-from_err}
-use Rattle.meaning_atoms.specs.declared.atom.Atom.TheVariants.{Ad}
 use Rattle.certificate_claims.specs.SetLiterals.{wider}
 use Rattle.goal_lists.proofs.RunLemmas.{obliged, ran_as, ran_nothing}
 use Rattle.goal_lists.proofs.SideLemmas.{if_ask}
@@ -34,6 +33,6 @@ returns-clause-ran g c =
     let f = g.O.Oracle.framework c.args.oracle.now in
     let e = c.args.widest.now.set in
     let call = c.oblige.ensures in
-    ran_as (makes_wider f Ad e c.deref.result.now c.requires.admissible
+    ran_as (makes_wider f c.args.mode e c.deref.result.now c.requires.has_mode
     (c.deref.ensures.value ∙ c.in_ok-side.ensures f e c.requires.kind c.members.ensures.value c.requires.range))
     (omega arith) (obliged c.deref.result.now e call.run call.framework call.kept call.follows)

@@ -14,21 +14,23 @@ pub search_beside-requires-clause-beside : goal.search_beside-requires-clause-be
 search_beside-requires-clause-beside g c =
     let f = g.O.Oracle.framework c.args.oracle.now in
     look_beside f c.args.mode c.args.set.now c.args.range.now c.as_slice.result.now c.deref.result.now
-    c.as_slice.ensures.value
+    c.mode_atom.result c.as_slice.ensures.value
     (c.deref.ensures.value
     ∙ c.in_ok-side.ensures f c.args.set.now c.requires.kind c.members.ensures.value c.requires.range)
+    c.mode_atom.ensures
     (look_at f c.args.mode c.args.set.now c.args.range.now c.requires.kind c.members.ensures.kept.numbered
-    c.requires.mode c.requires.holds c.requires.range)
+    c.requires.holds c.requires.range)
 
 pub returns-clause-wider : goal.returns-clause-wider
 returns-clause-wider g c =
     let f = g.O.Oracle.framework c.args.oracle.now in
     if_wider f (g.O.Oracle.log c.search_beside.new.oracle) c.args.mode c.args.set.now c.args.range.now
-    c.as_slice.result.now c.deref.result.now c.as_slice.ensures.value
+    c.as_slice.result.now c.deref.result.now c.mode_atom.result c.as_slice.ensures.value
     (c.deref.ensures.value
     ∙ c.in_ok-side.ensures f c.args.set.now c.requires.kind c.members.ensures.value c.requires.range)
+    c.mode_atom.ensures
     (look_at f c.args.mode c.args.set.now c.args.range.now c.requires.kind c.members.ensures.kept.numbered
-    c.requires.mode c.requires.holds c.requires.range)
+    c.requires.holds c.requires.range)
     c.search_beside.result c.search_beside.ensures.found
 
 pub returns-in_err-side-clause-ran : goal.returns-in_err-side-clause-ran

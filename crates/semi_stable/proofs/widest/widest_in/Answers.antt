@@ -1,7 +1,7 @@
 use Rattle.std.proofs.Common.{rules, arith}
 use Rattle.goal_lists.proofs.RunLemmas.{ran_lost, ran_none, ran_nothing, then_found, then_handed, then_none}
 use Rattle.semi_stable.proofs.WidestLemmas.{fewer_open, wider_set}
-use Rattle.semi_stable.proofs.widest.widest_from.Goals as goal
+use Rattle.semi_stable.proofs.widest.widest_in.Goals as goal
 
 pub returns-in_err-grown-clause-ran : goal.returns-in_err-grown-clause-ran
 returns-in_err-grown-clause-ran g c =

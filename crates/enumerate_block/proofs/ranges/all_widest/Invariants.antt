@@ -3,13 +3,14 @@ use Rattle.std.specs.Prelude.{None}
 use Rattle.enumerate_block.specs.Ranges.{AreFound, MadeForRanges}
 use Rattle.enumerate_block.proofs.RangeLemmas.{open_ranges}
 use Rattle.goal_lists.specs.Runs.{Ran}
-use Rattle.enumerate_block.proofs.ranges.all_semi_stable.Given as goal
+use Rattle.enumerate_block.proofs.ranges.all_widest.Given as goal
 
 abbrev pub invariant-loop-found : goal.invariant-loop-found
 invariant-loop-found g l = record {
-  found : AreFound (g.O.Oracle.framework l.fn.oracle) (g.O.Oracle.log l.oracle) l.found;
+  found : AreFound (g.O.Oracle.framework l.fn.oracle) (g.O.Oracle.log l.oracle) l.mode l.found;
   room : length l.found.sets.items ≤ l.limit;
-  ran : Ran g.O.Oracle MadeForRanges (2 * length l.found.asks) l.fn.oracle l.oracle l.fn.budget l.budget None;
+  ran : Ran g.O.Oracle (λ f. MadeForRanges f l.mode) (2 * length l.found.asks) l.fn.oracle l.oracle l.fn.budget
+      l.budget None;
 }
 
 abbrev pub decreases-loop-found : goal.decreases-loop-found
