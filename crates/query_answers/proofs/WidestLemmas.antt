@@ -1,5 +1,5 @@
 -- Answers by the sets of a mode that have widest ranges.
-use Rattle.std.proofs.Common.{◌≡◌, ℕ, ◌<◌, Bool, true, false, List, [], ◌∷◌, length, refl, sym, subst, arith}
+use Rattle.std.proofs.Common.{◌≡◌, ℕ, Bool, true, false, List, [], ◌∷◌, refl, sym, subst, arith}
 use Rattle.std.specs.Prelude.{Contains, Some, None, slice_index_or}
 use Rattle.std.proofs.lemmas.Bool.{false≢true}
 use Rattle.semantics.specs.declared.mode.Mode.{Mode}
@@ -30,7 +30,6 @@ use Rattle.enumerate_block.specs.declared.deciding.Deciding.TheVariants.{Witness
 use Rattle.enumerate_block.specs.Ranges.{AreRefuted}
 use Rattle.enumerate_block.specs.Witnesses.{IsDecided, literal_of}
 use Rattle.enumerate_block.proofs.OneSet.{tests_one}
-use Rattle.query_answers.specs.declared.evidence.Evidence.{Evidence}
 use Rattle.query_answers.specs.Answers.{AsksAbout, AsksSome, IsEvidence, problem_of}
 use Rattle.query_answers.specs.Forms.{decided_evidence, evidence_with, shown_with, shown_without}
 use Rattle.query_answers.proofs.CompleteStableLemmas.{asked_about, asked_some}
