@@ -3,18 +3,21 @@
 use Rattle.std.proofs.Common.{◌≡◌, ◌<◌, ℕ, List, [], ◌∷◌, ◌++◌, length, map, filter, arith, refl}
 use Rattle.std.specs.Prelude.{Contains, slice_index_or}
 use Rattle.lists.proofs.Membership.{Contains-nil, Contains-tail}
+use Rattle.iccma_tasks.specs.semantics.specs.declared.mode.Mode.{Mode}
+use Rattle.iccma_tasks.specs.semantics.specs.declared.mode.Mode.TheVariants.{Cf, Ad}
+use Rattle.iccma_tasks.specs.semantics.specs.AbaFrameworks.{Aba}
 use Rattle.iccma_tasks.specs.semantics.specs.Frameworks.{Framework, af, aba, IsNumbered}
-use Rattle.aba_axioms.specs.meaning_atoms.specs.declared.atom.Atom.TheVariants.{Ad}
+use Rattle.aba_axioms.specs.meaning_atoms.specs.declared.atom.Atom.TheVariants.{Ad as AdAtom}
 use Rattle.aba_axioms.specs.meaning_atoms.specs.declared.atom.AtomLit.{AtomLit}
 use Rattle.aba_axioms.specs.meaning_atoms.specs.Literals.{affirmed}
 use Rattle.aba_axioms.specs.meaning_atoms.specs.Worlds.{HoldsOf, Says, IsAsk}
 use Rattle.iccma_tasks.specs.declared.task.Semantics.{Semantics}
-use Rattle.iccma_tasks.specs.declared.task.Semantics.TheVariants.{Complete, Grounded, Preferred, Stable, SemiStable, Ideal as IdealSets}
+use Rattle.iccma_tasks.specs.declared.task.Semantics.TheVariants.{Complete, Grounded, Preferred, Stable, SemiStable, Ideal as IdealSets, Stage}
 use Rattle.iccma_tasks.specs.Tasks.{Asked}
 use Rattle.certificate_claims.specs.declared.row.Row.{Row}
 use Rattle.certificate_claims.specs.declared.row.Row.TheVariants.{Widest, Ranged, AllWidest}
 use Rattle.certificate_claims.specs.Acceptance.{NoRangeWithin, Tests}
-use Rattle.certificate_claims.specs.Claims.{claims, row_where, first_ranged, ideal_claims, range_cover, range_free, range_listed}
+use Rattle.certificate_claims.specs.Claims.{claims, mode_atom, row_where, first_ranged, ideal_claims, range_cover, range_free, range_listed, widest_semantics}
 use Rattle.certificate_claims.specs.Rights.{IsExtension}
 use Rattle.certificate_claims.specs.SetLiterals.{range_of, same_range, hit_by_any, are_in, are_out, are_ranged, outside, differs, wider, attacked}
 use Rattle.certificate_claims.specs.Laws.{AreExcluded}
@@ -22,15 +25,17 @@ use Rattle.certificate_claims.proofs.GoalLists.{asks_nil, asks_cons, asks_append
 use Rattle.certificate_claims.proofs.IdealSets.{shown_ideal}
 use Rattle.certificate_claims.proofs.LargestSets.{AreExactly}
 use Rattle.certificate_claims.proofs.SideClauses.{in_plain, out_plain, ranged_plain, outside_plain, differs_plain, wider_plain, attacked_plain}
-use Rattle.certificate_claims.proofs.WidestSets.{widest_semi_stable, ranged_out, all_semi_stable}
+use Rattle.certificate_claims.proofs.Modes.{mode_plain, widest_extension}
+use Rattle.certificate_claims.proofs.WidestSets.{widest_is, ranged_out, all_widest}
 use Rattle.lists.proofs.Images.{image_there}
 
 -- ---- the frameworks that are asked for a semantics
 
--- answers by the semantics have rows: those on assumption-based frameworks have none by semi-stable and by ideal sets
+-- answers by the semantics have rows: those on assumption-based frameworks have none by semi-stable, ideal and stage sets
 abbrev pub HasRows : Semantics → Framework → Type 0
 HasRows SemiStable (aba f) = ⊥
 HasRows IdealSets (aba f) = ⊥
+HasRows Stage (aba f) = ⊥
 HasRows semantics f = Unit {0}
 
 -- where tests pass, answers by the semantics have rows, and the row is the answer's own
@@ -45,65 +50,80 @@ row_is_own SemiStable (af f) asked row shown sets h = (tt, refl)
 row_is_own SemiStable (aba f) asked row shown sets h = absurd (h.shape)
 row_is_own IdealSets (af f) asked row shown sets h = (tt, refl)
 row_is_own IdealSets (aba f) asked row shown sets h = absurd (h.shape)
+row_is_own Stage (af f) asked row shown sets h = (tt, refl)
+row_is_own Stage (aba f) asked row shown sets h = absurd (h.shape)
 
--- ---- semi-stable sets
+-- ---- sets with widest ranges
 
-pub is_semi_stable : (f : Framework) → HasRows SemiStable f → (e : List ℕ) (sets : List (List ℕ)) → IsNumbered f
-    → HoldsOf f e Ad → AreExcluded f (claims f (Widest e) sets)
-    → IsExtension f SemiStable e
-is_semi_stable (aba f) rows e sets numbered ok none = absurd rows
-is_semi_stable (af f) rows e sets numbered ok none =
+no_widest_rows : (mode : Mode) (f : Aba) → HasRows (widest_semantics mode) (aba f) → ⊥
+no_widest_rows Cf f rows = rows
+no_widest_rows Ad f rows = rows
+
+pub is_widest : (mode : Mode) (f : Framework) → HasRows (widest_semantics mode) f → (e : List ℕ)
+    (sets : List (List ℕ)) → IsNumbered f
+    → HoldsOf f e (mode_atom mode) → AreExcluded f (claims f (Widest mode e) sets)
+    → IsExtension f (widest_semantics mode) e
+is_widest mode (aba f) rows e sets numbered ok none = absurd (no_widest_rows mode f rows)
+is_widest mode (af f) rows e sets numbered ok none =
     let goals = are_ranged (range_of (af f) e) in
-    widest_semi_stable f e numbered ok
+    (widest_extension mode f e).1 (widest_is mode f e numbered ok
     (none 0 (omega arith)
-    (plain_mapped (affirmed Ad ∷ goals) (wider (af f)) (e ∷ [])
-    (ad_plain goals (ranged_plain (range_of (af f) e))) (wider_plain (af f))))
+    (plain_mapped (affirmed (mode_atom mode) ∷ goals) (wider (af f)) (e ∷ [])
+    (mode_plain mode goals (ranged_plain (range_of (af f) e))) (wider_plain (af f)))))
 
-pub none_semi_stable : (f : Framework) → HasRows SemiStable f → (bad : AtomLit) (sets : List (List ℕ)) → IsNumbered f
+pub none_widest : (mode : Mode) (f : Framework) → HasRows (widest_semantics mode) f → (bad : AtomLit)
+    (sets : List (List ℕ)) → IsNumbered f
     → (IsAsk bad.atom → ⊥)
-    → ((k : ℕ) → k < length sets → HoldsOf f (slice_index_or sets k []) Ad)
-    → AreExcluded f (claims f (Ranged bad) sets)
-    → (e : List ℕ) → IsExtension f SemiStable e → Says bad.positive (HoldsOf f e bad.atom) → ⊥
-none_semi_stable (aba f) rows bad sets numbered no_ask ok none e semi says = absurd rows
-none_semi_stable (af f) rows bad sets numbered no_ask ok none e semi says =
-    ranged_out f bad sets numbered (each_of (λ s. HoldsOf (af f) s Ad) sets ok)
+    → ((k : ℕ) → k < length sets → HoldsOf f (slice_index_or sets k []) (mode_atom mode))
+    → AreExcluded f (claims f (Ranged mode bad) sets)
+    → (e : List ℕ) → IsExtension f (widest_semantics mode) e → Says bad.positive (HoldsOf f e bad.atom) → ⊥
+none_widest mode (aba f) rows bad sets numbered no_ask ok none e wide says = absurd (no_widest_rows mode f rows)
+none_widest mode (af f) rows bad sets numbered no_ask ok none e wide says =
+    let free = range_free (af f) mode bad in
+    let cover = range_cover (af f) mode (bad ∷ []) sets in
+    ranged_out mode f bad sets numbered (each_of (λ s. HoldsOf (af f) s (mode_atom mode)) sets ok)
     (none 0 (omega arith)
-    (plain_mapped (affirmed Ad ∷ bad ∷ []) (wider (af f)) sets
-    (ad_plain (bad ∷ []) (asks_cons bad [] no_ask asks_nil)) (wider_plain (af f))))
-    (λ s c. excluded_in (af f) (claims (af f) (Ranged bad) sets) (range_free (af f) bad s) none
-    (Contains-tail (range_cover (af f) (bad ∷ []) sets) (map (range_free (af f) bad) sets) (range_free (af f) bad s)
-    (image_there (range_free (af f) bad) sets s c))
+    (plain_mapped (affirmed (mode_atom mode) ∷ bad ∷ []) (wider (af f)) sets
+    (mode_plain mode (bad ∷ []) (asks_cons bad [] no_ask asks_nil)) (wider_plain (af f))))
+    (λ s c. excluded_in (af f) (claims (af f) (Ranged mode bad) sets) (free s) none
+    (Contains-tail cover (map free sets) (free s) (image_there free sets s c))
     (record {
-      goals = ad_plain (bad ∷ are_ranged (range_of (af f) s))
+      goals = mode_plain mode (bad ∷ are_ranged (range_of (af f) s))
           (asks_cons bad (are_ranged (range_of (af f) s)) no_ask (ranged_plain (range_of (af f) s)));
       sides = λ side k. absurd (Contains-nil side k);
     }))
-    e semi says
+    e ((widest_extension mode f e).0 wide) says
 
--- admissible sets, no range in another, are all semi-stable sets where no set meets the claims of their row
-pub are_widest : (f : Framework) → HasRows SemiStable f → (all sets : List (List ℕ)) → IsNumbered f
-    → ((e : List ℕ) → Contains all e → HoldsOf f e Ad) → NoRangeWithin f all
-    → AreExcluded f (claims f (AllWidest all) sets)
-    → AreExactly (IsExtension f SemiStable) all
-are_widest (aba f) rows all sets numbered ok apart none = absurd rows
-are_widest (af f) rows all sets numbered ok apart none =
+-- sets of the mode, no range in another, are all that have widest ranges where no set meets the claims of their row
+pub are_widest : (mode : Mode) (f : Framework) → HasRows (widest_semantics mode) f → (all sets : List (List ℕ))
+    → IsNumbered f
+    → ((e : List ℕ) → Contains all e → HoldsOf f e (mode_atom mode)) → NoRangeWithin f all
+    → AreExcluded f (claims f (AllWidest mode all) sets)
+    → AreExactly (IsExtension f (widest_semantics mode)) all
+are_widest mode (aba f) rows all sets numbered ok apart none = absurd (no_widest_rows mode f rows)
+are_widest mode (af f) rows all sets numbered ok apart none =
     let firsts = first_ranged (af f) all in
-    let cover = range_cover (af f) [] firsts in
-    all_semi_stable f all numbered ok apart
+    let cover = range_cover (af f) mode [] firsts in
+    let listed = range_listed (af f) mode all in
+    let exact = all_widest mode f all numbered ok apart
     (none 0 (omega arith)
-    (plain_mapped (affirmed Ad ∷ []) (wider (af f)) firsts (ad_plain [] asks_nil) (wider_plain (af f))))
-    (λ e c. excluded_in (af f) (cover ∷ map (range_listed (af f) all) firsts) (range_listed (af f) all e) none
-    (Contains-tail cover (map (range_listed (af f) all) firsts) (range_listed (af f) all e)
-    (image_there (range_listed (af f) all) firsts e c))
-    (plain_mapped (affirmed Ad ∷ are_ranged (range_of (af f) e)) (differs (af f))
+    (plain_mapped (affirmed (mode_atom mode) ∷ []) (wider (af f)) firsts (mode_plain mode [] asks_nil)
+    (wider_plain (af f))))
+    (λ e c. excluded_in (af f) (cover ∷ map listed firsts) (listed e) none
+    (Contains-tail cover (map listed firsts) (listed e) (image_there listed firsts e c))
+    (plain_mapped (affirmed (mode_atom mode) ∷ are_ranged (range_of (af f) e)) (differs (af f))
     (filter (same_range (af f) e) all)
-    (ad_plain (are_ranged (range_of (af f) e)) (ranged_plain (range_of (af f) e))) (differs_plain (af f))))
+    (mode_plain mode (are_ranged (range_of (af f) e)) (ranged_plain (range_of (af f) e))) (differs_plain (af f)))) in
+    record {
+      each = λ e c. (widest_extension mode f e).1 (exact.each e c);
+      all = λ e is. exact.all e ((widest_extension mode f e).0 is);
+    }
 
 -- ---- the ideal set
 
 pub is_ideal : (f : Framework) → HasRows IdealSets f → (e : List ℕ) (others : List (List ℕ)) → IsNumbered f
-    → HoldsOf f e Ad
-    → ((o : List ℕ) → Contains others o → HoldsOf f o Ad)
+    → HoldsOf f e AdAtom
+    → ((o : List ℕ) → Contains others o → HoldsOf f o AdAtom)
     → AreExcluded f (ideal_claims f (e ∷ others))
     → IsExtension f IdealSets e
 is_ideal (aba f) rows e others numbered ok each none = absurd rows
@@ -111,8 +131,8 @@ is_ideal (af f) rows e others numbered ok each none =
     let out = are_out (hit_by_any (af f) others) in
     shown_ideal f e others numbered ok each
     (none 0 (omega arith)
-    (plain_mapped (affirmed Ad ∷ []) (attacked (af f)) (e ∷ []) (ad_plain [] asks_nil) (attacked_plain (af f))))
+    (plain_mapped (affirmed AdAtom ∷ []) (attacked (af f)) (e ∷ []) (ad_plain [] asks_nil) (attacked_plain (af f))))
     (none 1 (omega arith)
-    (plain_mapped (affirmed Ad ∷ (are_in e ++ out)) (outside (af f)) (e ∷ [])
+    (plain_mapped (affirmed AdAtom ∷ (are_in e ++ out)) (outside (af f)) (e ∷ [])
     (ad_plain (are_in e ++ out) (asks_append (are_in e) out (in_plain e) (out_plain (hit_by_any (af f) others))))
     (outside_plain (af f))))

@@ -4,14 +4,15 @@ use Rattle.std.specs.Prelude.{slice_index_or}
 use Rattle.lists.proofs.Membership.{Contains-nil}
 use Rattle.iccma_tasks.specs.semantics.specs.Frameworks.{Framework, IsNumbered}
 use Rattle.aba_axioms.specs.meaning_atoms.specs.declared.atom.Atom.{Atom}
-use Rattle.aba_axioms.specs.meaning_atoms.specs.declared.atom.Atom.TheVariants.{Ad, Co, St}
+use Rattle.aba_axioms.specs.meaning_atoms.specs.declared.atom.Atom.TheVariants.{Cf, Ad, Co, St}
+use Rattle.iccma_tasks.specs.semantics.specs.declared.mode.Mode.TheVariants.{Cf as OfCf, Ad as OfAd}
 use Rattle.aba_axioms.specs.meaning_atoms.specs.declared.atom.AtomLit.{AtomLit}
 use Rattle.aba_axioms.specs.meaning_atoms.specs.Literals.{affirmed, negated}
 use Rattle.aba_axioms.specs.meaning_atoms.specs.Worlds.{IsWorldOf, HoldsOf, Says, IsAsk}
 use Rattle.iccma_tasks.specs.declared.task.Problem.{Problem}
 use Rattle.iccma_tasks.specs.declared.task.Problem.TheVariants.{AllExtensions}
 use Rattle.iccma_tasks.specs.declared.task.Semantics.{Semantics}
-use Rattle.iccma_tasks.specs.declared.task.Semantics.TheVariants.{Complete, Grounded, Preferred, Stable, SemiStable, Ideal as IdealSets}
+use Rattle.iccma_tasks.specs.declared.task.Semantics.TheVariants.{Complete, Grounded, Preferred, Stable, SemiStable, Ideal as IdealSets, Stage}
 use Rattle.iccma_tasks.specs.Tasks.{Asked, task_of}
 use Rattle.certificate_claims.specs.declared.row.Row.{Row}
 use Rattle.certificate_claims.specs.declared.row.Row.TheVariants.{Excluded, Largest, Covered, Ideal}
@@ -150,7 +151,11 @@ are_all f Stable all sets h = record {
   rise = h.tests.order;
 }
 are_all f SemiStable all sets h =
-    let exact = are_widest f h.rows all sets h.numbered (each_of (λ s. HoldsOf f s Ad) all h.tests.witnesses)
+    let exact = are_widest OfAd f h.rows all sets h.numbered (each_of (λ s. HoldsOf f s Ad) all h.tests.witnesses)
     h.tests.order.1 h.none in
     record { each = exact.each; all = exact.all; rise = h.tests.order.0 }
 are_all f IdealSets all sets h = absurd (h.tests.shape)
+are_all f Stage all sets h =
+    let exact = are_widest OfCf f h.rows all sets h.numbered (each_of (λ s. HoldsOf f s Cf) all h.tests.witnesses)
+    h.tests.order.1 h.none in
+    record { each = exact.each; all = exact.all; rise = h.tests.order.0 }

@@ -5,9 +5,10 @@ use Rattle.iccma_tasks.specs.semantics.specs.Frameworks.{Framework, IsNumbered}
 use Rattle.aba_axioms.specs.meaning_atoms.specs.declared.atom.Atom.TheVariants.{Ad}
 use Rattle.aba_axioms.specs.meaning_atoms.specs.Worlds.{IsWorldOf, HoldsOf}
 use Rattle.iccma_tasks.specs.declared.task.Semantics.{Semantics}
-use Rattle.iccma_tasks.specs.declared.task.Semantics.TheVariants.{Complete, Grounded, Preferred, Stable, SemiStable, Ideal}
+use Rattle.iccma_tasks.specs.declared.task.Semantics.TheVariants.{Complete, Grounded, Preferred, Stable, SemiStable, Ideal, Stage}
 use Rattle.certificate_claims.specs.Rights.{Accepts, IsExtension}
-use Rattle.certificate_claims.proofs.KindFacts.{admissible_members, members_world, complete_admissible, stable_admissible, complete_is, stable_is, preferred_is, grounded_is, semi_stable_admissible, ideal_admissible, ideal_within, accepts_more}
+use Rattle.certificate_claims.specs.SetLiterals.{members}
+use Rattle.certificate_claims.proofs.KindFacts.{admissible_members, members_world, complete_admissible, stable_admissible, complete_is, stable_is, preferred_is, grounded_is, semi_stable_admissible, stage_members, ideal_admissible, ideal_within, accepts_more}
 
 -- an admissible set is one of a world
 pub admissible_world : (f : Framework) (s : List ℕ) → IsNumbered f → HoldsOf f s Ad → IsWorldOf f s
@@ -27,14 +28,19 @@ stable_extension_admissible f s ok h = stable_admissible f s ok ((stable_is f s)
 pub grounded_complete : (f : Framework) (g : List ℕ) → IsExtension f Grounded g → IsExtension f Complete g
 grounded_complete f g h = (complete_is f g).1 ((grounded_is f g).0 h).complete
 
-pub extension_admissible : (f : Framework) (semantics : Semantics) (s : List ℕ) → IsNumbered f
-    → IsExtension f semantics s → HoldsOf f s Ad
-extension_admissible f Complete s ok h = complete_extension_admissible f s h
-extension_admissible f Grounded s ok h = complete_extension_admissible f s (grounded_complete f s h)
-extension_admissible f Preferred s ok h = preferred_admissible f s h
-extension_admissible f Stable s ok h = stable_extension_admissible f s ok h
-extension_admissible f SemiStable s ok h = semi_stable_admissible f s h
-extension_admissible f Ideal s ok h = ideal_admissible f s h
+pub grounded_admissible : (f : Framework) (g : List ℕ) → IsExtension f Grounded g → HoldsOf f g Ad
+grounded_admissible f g h = complete_extension_admissible f g (grounded_complete f g h)
+
+-- extensions have the framework's arguments or assumptions alone
+pub extension_members : (f : Framework) (semantics : Semantics) (s : List ℕ) → IsNumbered f
+    → IsExtension f semantics s → IsWithin s (members f)
+extension_members f Complete s ok h = admissible_members f s (complete_extension_admissible f s h)
+extension_members f Grounded s ok h = admissible_members f s (grounded_admissible f s h)
+extension_members f Preferred s ok h = admissible_members f s (preferred_admissible f s h)
+extension_members f Stable s ok h = admissible_members f s (stable_extension_admissible f s ok h)
+extension_members f SemiStable s ok h = admissible_members f s (semi_stable_admissible f s h)
+extension_members f Ideal s ok h = admissible_members f s (ideal_admissible f s h)
+extension_members f Stage s ok h = stage_members f s h
 
 -- no admissible set is larger than a preferred one
 pub preferred_maximal : (f : Framework) (s t : List ℕ) → IsExtension f Preferred s → HoldsOf f t Ad → IsWithin s t

@@ -20,7 +20,7 @@ use Rattle.aba_axioms.specs.meaning_atoms.specs.Literals.{negated}
 use Rattle.aba_axioms.specs.meaning_atoms.specs.Worlds.{IsWorldOf, HoldsOf, Says, IsAsk, IsValid}
 use Rattle.af_axioms.proofs.Rows.{rows_are_valid}
 use Rattle.aba_axioms.proofs.Validity.{clauses_are_valid}
-use Rattle.iccma_tasks.specs.declared.task.Semantics.TheVariants.{Complete, Grounded, Preferred, Stable, SemiStable, Ideal}
+use Rattle.iccma_tasks.specs.declared.task.Semantics.TheVariants.{Complete, Grounded, Preferred, Stable, SemiStable, Ideal, Stage}
 use Rattle.certificate_claims.specs.Refutations.{IsAxiomOf, axiom_clause}
 use Rattle.certificate_claims.specs.Rights.{Accepts, IsExtension}
 use Rattle.certificate_claims.specs.SetLiterals.{goal, members, struck}
@@ -121,10 +121,14 @@ grounded_is (aba f) s = (
   λ h. record { complete = h.complete; least = h.least },
 )
 
--- semi-stable and ideal sets, for which abstract frameworks alone are asked; the notions are there for both kinds
+-- semi-stable, stage and ideal sets, for which abstract frameworks alone are asked; the notions are there for both kinds
 pub semi_stable_admissible : (f : Framework) (s : List ℕ) → IsExtension f SemiStable s → HoldsOf f s Ad
-semi_stable_admissible (af f) s h = h.admissible
-semi_stable_admissible (aba f) s h = h.admissible
+semi_stable_admissible (af f) s h = h.has_mode
+semi_stable_admissible (aba f) s h = h.has_mode
+
+pub stage_members : (f : Framework) (s : List ℕ) → IsExtension f Stage s → IsWithin s (members f)
+stage_members (af f) s h = h.has_mode.live
+stage_members (aba f) s h = h.has_mode.live
 
 pub ideal_admissible : (f : Framework) (s : List ℕ) → IsExtension f Ideal s → HoldsOf f s Ad
 ideal_admissible (af f) s h = h.in_all.admissible

@@ -9,6 +9,7 @@ pub mod Refuting
 pub mod GoalLists
 pub mod SideClauses
 pub mod LargestSets
+pub mod Modes
 pub mod WidestSets
 pub mod IdealSets
 pub mod AfEvidence

@@ -1,21 +1,23 @@
 -- What is shown is right, and what is accepted is shown.
 use Rattle.std.proofs.Common.{⊎_elim, ℕ, Bool, true, false, List, [], ◌∷◌, Option, Some, None, subst, arith}
+use Rattle.iccma_tasks.specs.semantics.specs.declared.mode.Mode.TheVariants.{Cf as OfCf, Ad as OfAd}
 use Rattle.iccma_tasks.specs.semantics.specs.Frameworks.{Framework}
 use Rattle.aba_axioms.specs.meaning_atoms.specs.declared.atom.Atom.TheVariants.{Ad, St}
 use Rattle.aba_axioms.specs.meaning_atoms.specs.Literals.{negated}
+use Rattle.aba_axioms.specs.meaning_atoms.specs.Worlds.{HoldsOf, Says}
 use Rattle.iccma_tasks.specs.declared.answer.Answer.{Answer}
 use Rattle.iccma_tasks.specs.declared.answer.Answer.TheVariants.{Yes, No, Sets}
 use Rattle.iccma_tasks.specs.declared.task.Problem.{Problem}
 use Rattle.iccma_tasks.specs.declared.task.Problem.TheVariants.{Credulous, Sceptical, SomeExtension, AllExtensions}
 use Rattle.iccma_tasks.specs.declared.task.Semantics.{Semantics}
-use Rattle.iccma_tasks.specs.declared.task.Semantics.TheVariants.{Complete, Grounded, Preferred, Stable, SemiStable, Ideal}
+use Rattle.iccma_tasks.specs.declared.task.Semantics.TheVariants.{Complete, Grounded, Preferred, Stable, SemiStable, Ideal, Stage}
 use Rattle.certificate_claims.specs.declared.row.Row.{Row}
 use Rattle.certificate_claims.specs.Acceptance.{Tests}
 use Rattle.certificate_claims.specs.Claims.{claims, row_for, sets_of, shown as shown_row, none_accepts, each_accepts, there_is_none}
 use Rattle.certificate_claims.specs.Rights.{Accepts, IsExtension, IsRightOf, IsRightCredulous, IsRightSceptical, IsRightSome, IsRightAll}
 use Rattle.certificate_claims.specs.SetLiterals.{goal}
 use Rattle.certificate_claims.specs.Laws.{AreExcluded, ShownIsRight, AcceptedIsRight}
-use Rattle.certificate_claims.proofs.AfEvidence.{is_semi_stable, none_semi_stable, row_is_own}
+use Rattle.certificate_claims.proofs.AfEvidence.{is_widest, none_widest, row_is_own}
 use Rattle.certificate_claims.proofs.Evidence.{Shows, asked_of, no_such_set, none_of_mode, is_preferred, is_covered, ideal_found, are_all}
 use Rattle.certificate_claims.proofs.ExtensionFacts.{admissible_world, complete_extension_admissible, preferred_admissible, stable_extension_admissible, grounded_complete, grounded_least, ideal_accepts}
 use Rattle.certificate_claims.proofs.KindFacts.{stable_is, goal_is, denied_is, goal_asks_nothing, decide_accepts}
@@ -34,7 +36,9 @@ shown_is f problem Preferred number accepts e sets h =
     is_preferred f e sets h.numbered (h.tests.witnesses 0 (omega arith)).0 h.none
 shown_is f problem Stable number accepts e sets h = (h.tests.witnesses 0 (omega arith)).0
 shown_is f problem SemiStable number accepts e sets h =
-    is_semi_stable f h.rows e sets h.numbered (h.tests.witnesses 0 (omega arith)).0 h.none
+    is_widest OfAd f h.rows e sets h.numbered (h.tests.witnesses 0 (omega arith)).0 h.none
+shown_is f problem Stage number accepts e sets h =
+    is_widest OfCf f h.rows e sets h.numbered (h.tests.witnesses 0 (omega arith)).0 h.none
 shown_is f problem Ideal number accepts e sets h =
     let i = ideal_found f h.rows (asked_of problem Ideal number) (Some e) accepts (e ∷ []) sets h in
     subst (λ (s : List ℕ). IsExtension f Ideal s) i.shown i.is
@@ -48,6 +52,7 @@ shown_accepts f Grounded q e sets h = (h.tests.witnesses 0 (omega arith)).1
 shown_accepts f Preferred q e sets h = (h.tests.witnesses 0 (omega arith)).1
 shown_accepts f Stable q e sets h = (h.tests.witnesses 0 (omega arith)).1
 shown_accepts f SemiStable q e sets h = (h.tests.witnesses 0 (omega arith)).1
+shown_accepts f Stage q e sets h = (h.tests.witnesses 0 (omega arith)).1
 shown_accepts f Ideal q e sets h =
     let i = ideal_found f h.rows (asked_of Credulous Ideal (Some q)) (Some e) (Some true) (e ∷ []) sets h in
     subst (λ (s : List ℕ). Accepts f s q) i.shown i.accepts_as_said
@@ -62,6 +67,7 @@ shown_refuses f Grounded q e sets h = (h.tests.witnesses 0 (omega arith)).1
 shown_refuses f Preferred q e sets h = (h.tests.witnesses 0 (omega arith)).1
 shown_refuses f Stable q e sets h = (h.tests.witnesses 0 (omega arith)).1
 shown_refuses f SemiStable q e sets h = (h.tests.witnesses 0 (omega arith)).1
+shown_refuses f Stage q e sets h = (h.tests.witnesses 0 (omega arith)).1
 shown_refuses f Ideal q e sets h =
     let i = ideal_found f h.rows (asked_of Sceptical Ideal (Some q)) (Some e) (Some false) (e ∷ []) sets h in
     subst (λ (s : List ℕ). Accepts f s q → ⊥) i.shown i.accepts_as_said
@@ -86,11 +92,20 @@ none_right f Stable q shown sets h e is accepts =
     (admissible_world f e h.numbered (stable_extension_admissible f e h.numbered is))
     ((stable_is f e).0 is) ((goal_is f e q).1 accepts)
 none_right f SemiStable q shown sets h e is accepts =
-    none_semi_stable f h.rows (goal f q) sets h.numbered (goal_asks_nothing f q) h.tests.each_set h.none e is
+    none_widest OfAd f h.rows (goal f q) sets h.numbered (goal_asks_nothing f q) h.tests.each_set h.none e is
+    ((goal_is f e q).1 accepts)
+none_right f Stage q shown sets h e is accepts =
+    none_widest OfCf f h.rows (goal f q) sets h.numbered (goal_asks_nothing f q) h.tests.each_set h.none e is
     ((goal_is f e q).1 accepts)
 none_right f Ideal q shown sets h e is accepts =
     let i = ideal_found f h.rows (asked_of Credulous Ideal (Some q)) None (Some false) shown sets h in
     i.accepts_as_said (ideal_accepts f e i.set q is i.is accepts)
+
+-- what doesn't refuse the query accepts it
+accepts_unless : (f : Framework) (e : List ℕ) (q : ℕ)
+    → (Says (negated (goal f q)).positive (HoldsOf f e (negated (goal f q)).atom) → ⊥) → Accepts f e q
+accepts_unless f e q never =
+    ⊎_elim (λ accepts. accepts) (λ refuses. absurd (never ((denied_is f e q).1 refuses))) (decide_accepts f e q)
 
 each_right : (f : Framework) (semantics : Semantics) (q : ℕ) (shown sets : List (List ℕ))
     → Shows f (asked_of Sceptical semantics (Some q)) (each_accepts f semantics q) shown sets
@@ -100,16 +115,14 @@ each_right f Grounded q shown sets h e is =
     let g = h.tests.grounded in grounded_least f g.0 e q g.1 (grounded_complete f e is) g.2
 each_right f Preferred q shown sets h e is = is_covered f q sets h.numbered h.tests.each_set h.none e is
 each_right f Stable q shown sets h e is =
-    ⊎_elim (λ accepts. accepts)
-    (λ refuses. absurd (no_such_set f St (negated (goal f q)) sets (λ x. x) (goal_asks_nothing f q) h.none e
-    (admissible_world f e h.numbered (stable_extension_admissible f e h.numbered is)) ((stable_is f e).0 is)
-    ((denied_is f e q).1 refuses)))
-    (decide_accepts f e q)
+    accepts_unless f e q (no_such_set f St (negated (goal f q)) sets (λ x. x) (goal_asks_nothing f q) h.none e
+    (admissible_world f e h.numbered (stable_extension_admissible f e h.numbered is)) ((stable_is f e).0 is))
 each_right f SemiStable q shown sets h e is =
-    ⊎_elim (λ accepts. accepts)
-    (λ refuses. absurd (none_semi_stable f h.rows (negated (goal f q)) sets h.numbered (goal_asks_nothing f q)
-    h.tests.each_set h.none e is ((denied_is f e q).1 refuses)))
-    (decide_accepts f e q)
+    accepts_unless f e q (none_widest OfAd f h.rows (negated (goal f q)) sets h.numbered (goal_asks_nothing f q)
+    h.tests.each_set h.none e is)
+each_right f Stage q shown sets h e is =
+    accepts_unless f e q (none_widest OfCf f h.rows (negated (goal f q)) sets h.numbered (goal_asks_nothing f q)
+    h.tests.each_set h.none e is)
 each_right f Ideal q shown sets h e is =
     let i = ideal_found f h.rows (asked_of Sceptical Ideal (Some q)) None (Some true) shown sets h in
     ideal_accepts f i.set e q i.is is i.accepts_as_said
@@ -125,6 +138,7 @@ none_exist f problem Stable number shown sets h =
     λ e is. none_of_mode f St sets (λ x. x) h.none e
     (admissible_world f e h.numbered (stable_extension_admissible f e h.numbered is)) ((stable_is f e).0 is)
 none_exist f problem SemiStable number shown sets h = absurd (h.tests.shape)
+none_exist f problem Stage number shown sets h = absurd (h.tests.shape)
 none_exist f problem Ideal number shown sets h = absurd (h.tests.shape)
 
 -- ---- answers

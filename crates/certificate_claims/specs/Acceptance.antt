@@ -14,7 +14,7 @@ use Rattle.certificate_claims.specs.declared.certificate.Certificate.{Certificat
 use Rattle.certificate_claims.specs.declared.certificate.Refutation.{Refutation}
 use Rattle.certificate_claims.specs.declared.row.Row.{Row}
 use Rattle.certificate_claims.specs.declared.row.Row.TheVariants.{Misshapen, Tested, Largest, Widest, ByGrounded, Covered, Ranged, Ideal, AllTested, AllLargest, AllWidest}
-use Rattle.certificate_claims.specs.Claims.{claims, row_of, sets_of}
+use Rattle.certificate_claims.specs.Claims.{claims, mode_atom, row_of, sets_of}
 use Rattle.certificate_claims.specs.Refutations.{Claim, IsRefutationOf}
 use Rattle.certificate_claims.specs.Rights.{Accepts, IsExtension, SetsRise}
 
@@ -34,10 +34,10 @@ Suits f _ _ e = Unit {0}
 abbrev pub PassesTest : Framework → Asked → Row → List ℕ → Type 0
 PassesTest f asked (Tested _) e = IsExtension f asked.task.semantics e × Suits f asked.task.problem asked.number e
 PassesTest f asked (Largest _) e = HoldsOf f e Ad × Suits f asked.task.problem asked.number e
-PassesTest f asked (Widest _) e = HoldsOf f e Ad × Suits f asked.task.problem asked.number e
+PassesTest f asked (Widest mode _) e = HoldsOf f e (mode_atom mode) × Suits f asked.task.problem asked.number e
 PassesTest f asked (AllTested _ _) e = IsExtension f asked.task.semantics e
 PassesTest f asked (AllLargest _) e = HoldsOf f e Ad
-PassesTest f asked (AllWidest _) e = HoldsOf f e Ad
+PassesTest f asked (AllWidest mode _) e = HoldsOf f e (mode_atom mode)
 PassesTest f asked _ e = Unit {0}
 
 -- no set of the list lies in another, different one
@@ -54,7 +54,7 @@ NoRangeWithin (aba f) sets = Unit {0}
 abbrev pub PassesOrder : Framework → Row → Type 0
 PassesOrder f (AllTested _ sets) = SetsRise sets
 PassesOrder f (AllLargest sets) = SetsRise sets × NoneWithin sets
-PassesOrder f (AllWidest sets) = SetsRise sets × NoRangeWithin f sets
+PassesOrder f (AllWidest _ sets) = SetsRise sets × NoRangeWithin f sets
 PassesOrder f _ = Unit {0}
 
 -- what the grounded set says of the query
@@ -70,7 +70,7 @@ PassesGrounded f asked _ = Unit {0}
 -- how many sets the certificate has
 abbrev pub TakesSets : Row → ℕ → Type 0
 TakesSets (Covered _) count = Unit {0}
-TakesSets (Ranged _) count = Unit {0}
+TakesSets (Ranged _ _) count = Unit {0}
 TakesSets (Ideal _ _) count = 0 < count
 TakesSets _ count = count ≡ 0
 
@@ -89,7 +89,7 @@ AcceptsAsSaid f None (Some accepts) e = ⊥
 -- the test of the certificate's set at an index
 abbrev pub PassesSet : Framework → Asked → Row → ℕ → List ℕ → Type 0
 PassesSet f asked (Covered q) k e = HoldsOf f e Ad × Accepts f e q
-PassesSet f asked (Ranged _) k e = HoldsOf f e Ad
+PassesSet f asked (Ranged mode _) k e = HoldsOf f e (mode_atom mode)
 PassesSet f asked (Ideal shown accepts) zero e =
     HoldsOf f e Ad × (IsShown shown e × AcceptsAsSaid f asked.number accepts e)
 PassesSet f asked (Ideal shown accepts) (suc k) e = HoldsOf f e Ad

@@ -2,7 +2,10 @@
 use Rattle.std.specs.Prelude.{ℕ, Bool, true, false, not, List, [], ◌∷◌, ◌++◌, map, filter, Option, Some, None}
 use Rattle.std.specs.List.{list_any}
 use Rattle.iccma_tasks.specs.semantics.specs.Frameworks.{Framework, aba}
-use Rattle.aba_axioms.specs.meaning_atoms.specs.declared.atom.Atom.TheVariants.{Ad, Co, St}
+use Rattle.iccma_tasks.specs.semantics.specs.declared.mode.Mode.{Mode}
+use Rattle.iccma_tasks.specs.semantics.specs.declared.mode.Mode.TheVariants.{Cf as ConflictFree, Ad as Admissible}
+use Rattle.aba_axioms.specs.meaning_atoms.specs.declared.atom.Atom.{Atom}
+use Rattle.aba_axioms.specs.meaning_atoms.specs.declared.atom.Atom.TheVariants.{Cf, Ad, Co, St}
 use Rattle.aba_axioms.specs.meaning_atoms.specs.declared.atom.AtomLit.{AtomLit}
 use Rattle.aba_axioms.specs.meaning_atoms.specs.Literals.{affirmed, negated}
 use Rattle.iccma_tasks.specs.declared.answer.Answer.{Answer}
@@ -10,12 +13,24 @@ use Rattle.iccma_tasks.specs.declared.answer.Answer.TheVariants.{Yes, No, Sets}
 use Rattle.iccma_tasks.specs.declared.task.Problem.{Problem}
 use Rattle.iccma_tasks.specs.declared.task.Problem.TheVariants.{Credulous, Sceptical, SomeExtension, AllExtensions}
 use Rattle.iccma_tasks.specs.declared.task.Semantics.{Semantics}
-use Rattle.iccma_tasks.specs.declared.task.Semantics.TheVariants.{Complete, Grounded, Preferred, Stable, SemiStable, Ideal as IdealSets}
+use Rattle.iccma_tasks.specs.declared.task.Semantics.TheVariants.{Complete, Grounded, Preferred, Stable, SemiStable, Ideal as IdealSets, Stage}
 use Rattle.iccma_tasks.specs.Tasks.{Asked}
 use Rattle.certificate_claims.specs.declared.row.Row.{Row}
 use Rattle.certificate_claims.specs.declared.row.Row.TheVariants.{Misshapen, Tested, Largest, Widest, Excluded, ByGrounded, Covered, Ranged, Ideal, AllTested, AllLargest, AllWidest}
 use Rattle.certificate_claims.specs.Refutations.{Claim}
 use Rattle.certificate_claims.specs.SetLiterals.{goal, range_of, same_range, hit_by_any, are_in, are_out, are_ranged, outside, differs, wider, attacked}
+
+-- ---- modes
+
+-- the atom that says that a set is of the mode
+abbrev pub mode_atom : Mode → Atom
+mode_atom ConflictFree = Cf
+mode_atom Admissible = Ad
+
+-- the semantics of the sets of the mode with widest ranges
+abbrev pub widest_semantics : Mode → Semantics
+widest_semantics ConflictFree = Stage
+widest_semantics Admissible = SemiStable
 
 -- ---- rows
 
@@ -25,7 +40,8 @@ shown Complete e accepts = Tested e
 shown Grounded e accepts = Tested e
 shown Preferred e accepts = Largest e
 shown Stable e accepts = Tested e
-shown SemiStable e accepts = Widest e
+shown SemiStable e accepts = Widest Admissible e
+shown Stage e accepts = Widest ConflictFree e
 shown IdealSets e accepts = Ideal (Some e) accepts
 
 -- no extension accepts the query: complete and preferred sets are admissible, and an admissible set is part of one
@@ -34,7 +50,8 @@ none_accepts f Complete q = Excluded (affirmed Ad ∷ goal f q ∷ [])
 none_accepts f Grounded q = ByGrounded false
 none_accepts f Preferred q = Excluded (affirmed Ad ∷ goal f q ∷ [])
 none_accepts f Stable q = Excluded (affirmed St ∷ goal f q ∷ [])
-none_accepts f SemiStable q = Ranged (goal f q)
+none_accepts f SemiStable q = Ranged Admissible (goal f q)
+none_accepts f Stage q = Ranged ConflictFree (goal f q)
 none_accepts f IdealSets q = Ideal None (Some false)
 
 -- every extension accepts the query: the grounded set is part of each complete one
@@ -43,7 +60,8 @@ each_accepts f Complete q = ByGrounded true
 each_accepts f Grounded q = ByGrounded true
 each_accepts f Preferred q = Covered q
 each_accepts f Stable q = Excluded (affirmed St ∷ negated (goal f q) ∷ [])
-each_accepts f SemiStable q = Ranged (negated (goal f q))
+each_accepts f SemiStable q = Ranged Admissible (negated (goal f q))
+each_accepts f Stage q = Ranged ConflictFree (negated (goal f q))
 each_accepts f IdealSets q = Ideal None (Some true)
 
 -- there is no extension, which is so of stable sets alone
@@ -56,7 +74,8 @@ abbrev pub all_shown : Semantics → List (List ℕ) → Row
 all_shown Complete sets = AllTested Co sets
 all_shown Preferred sets = AllLargest sets
 all_shown Stable sets = AllTested St sets
-all_shown SemiStable sets = AllWidest sets
+all_shown SemiStable sets = AllWidest Admissible sets
+all_shown Stage sets = AllWidest ConflictFree sets
 all_shown _ sets = Misshapen
 
 abbrev pub credulous_row : Framework → Semantics → ℕ → Answer → Row
@@ -86,11 +105,12 @@ row_for f SomeExtension semantics None answer = some_row semantics answer
 row_for f AllExtensions semantics None answer = all_row semantics answer
 row_for f _ semantics _ answer = Misshapen
 
--- the row, where answers by the semantics have one: those on assumption-based frameworks have none by semi-stable and by
--- ideal sets
+-- the row, where answers by the semantics have one: those on assumption-based frameworks have none by semi-stable, ideal
+-- and stage sets
 abbrev pub row_where : Semantics → Framework → Row → Row
 row_where SemiStable (aba f) row = Misshapen
 row_where IdealSets (aba f) row = Misshapen
+row_where Stage (aba f) row = Misshapen
 row_where semantics f row = row
 
 -- the answer's row
@@ -119,18 +139,22 @@ first_ranged f (e ∷ more) = e ∷ filter (λ s. not (same_range f e s)) (first
 abbrev pub has_ranged : Framework → List (List ℕ) → List ℕ → Bool
 has_ranged f sets x = list_any (λ s. same_range f s x) sets
 
--- each admissible set that makes the goals true has its range in that of one of the sets
-abbrev pub range_cover : Framework → List AtomLit → List (List ℕ) → Claim
-range_cover f goals sets = claim_of (affirmed Ad ∷ goals) (map (wider f) sets)
+-- no set of the mode has all of the set's range and more
+abbrev pub range_widest : Framework → Mode → List ℕ → Claim
+range_widest f mode e = claim_of (affirmed (mode_atom mode) ∷ are_ranged (range_of f e)) (wider f e ∷ [])
 
--- no admissible set that makes the literal true has all of the set's range
-abbrev pub range_free : Framework → AtomLit → List ℕ → Claim
-range_free f bad e = claim_of (affirmed Ad ∷ bad ∷ are_ranged (range_of f e)) []
+-- each set of the mode that makes the goals true has its range in that of one of the sets
+abbrev pub range_cover : Framework → Mode → List AtomLit → List (List ℕ) → Claim
+range_cover f mode goals sets = claim_of (affirmed (mode_atom mode) ∷ goals) (map (wider f) sets)
 
--- each admissible set with all of the set's range is one of the listed sets with that range
-abbrev pub range_listed : Framework → List (List ℕ) → List ℕ → Claim
-range_listed f sets e =
-    claim_of (affirmed Ad ∷ are_ranged (range_of f e)) (map (differs f) (filter (same_range f e) sets))
+-- no set of the mode that makes the literal true has all of the set's range
+abbrev pub range_free : Framework → Mode → AtomLit → List ℕ → Claim
+range_free f mode bad e = claim_of (affirmed (mode_atom mode) ∷ bad ∷ are_ranged (range_of f e)) []
+
+-- each set of the mode with all of the set's range is one of the listed sets with that range
+abbrev pub range_listed : Framework → Mode → List (List ℕ) → List ℕ → Claim
+range_listed f mode sets e =
+    claim_of (affirmed (mode_atom mode) ∷ are_ranged (range_of f e)) (map (differs f) (filter (same_range f e) sets))
 
 -- no admissible set attacks the first set; and each admissible set that holds it and nothing that one of the others
 -- attacks, which are admissible, lies in it
@@ -143,13 +167,13 @@ ideal_claims f (e ∷ others) =
 -- the claims of a row, in order; the sets are the certificate's
 abbrev pub claims : Framework → Row → List (List ℕ) → List Claim
 claims f (Largest e) sets = claim_of (affirmed Ad ∷ are_in e) (outside f e ∷ []) ∷ []
-claims f (Widest e) sets = claim_of (affirmed Ad ∷ are_ranged (range_of f e)) (wider f e ∷ []) ∷ []
+claims f (Widest mode e) sets = range_widest f mode e ∷ []
 claims f (Excluded goals) sets = claim_of goals [] ∷ []
 claims f (Covered q) sets = claim_of (affirmed Ad ∷ negated (goal f q) ∷ []) (map (outside f) sets) ∷ []
-claims f (Ranged bad) sets = range_cover f (bad ∷ []) sets ∷ map (range_free f bad) sets
+claims f (Ranged mode bad) sets = range_cover f mode (bad ∷ []) sets ∷ map (range_free f mode bad) sets
 claims f (Ideal shown accepts) sets = ideal_claims f sets
 claims f (AllTested mode all) sets = claim_of (affirmed mode ∷ []) (map (differs f) all) ∷ []
 claims f (AllLargest all) sets = claim_of (affirmed Ad ∷ []) (map (outside f) all) ∷ []
-claims f (AllWidest all) sets =
-    range_cover f [] (first_ranged f all) ∷ map (range_listed f all) (first_ranged f all)
+claims f (AllWidest mode all) sets =
+    range_cover f mode [] (first_ranged f all) ∷ map (range_listed f mode all) (first_ranged f all)
 claims f _ sets = []

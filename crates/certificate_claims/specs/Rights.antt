@@ -3,7 +3,7 @@ use Rattle.std.specs.Prelude.{◌≡◌, ℕ, ◌<◌, List, [], ◌∷◌, Cont
 use Rattle.std.specs.declared.cmp.Ordering.TheVariants.{Less}
 use Rattle.std.specs.Ordering.{nat_cmp}
 use Rattle.std.specs.Cmp.Lexicographic.{slice_cmp}
-use Rattle.iccma_tasks.specs.semantics.specs.Framework.{Af, IsComplete, IsGrounded, IsPreferred, IsStable, IsSemiStable, IsIdeal}
+use Rattle.iccma_tasks.specs.semantics.specs.Framework.{Af, IsComplete, IsGrounded, IsPreferred, IsStable, IsSemiStable, IsStage, IsIdeal}
 use Rattle.iccma_tasks.specs.semantics.specs.Frameworks.{Framework, af, aba}
 use Rattle.iccma_tasks.specs.semantics.specs.AbaFrameworks.{Aba, IsInTheory, collective_of}
 use Rattle.iccma_tasks.specs.semantics.specs.Collectives as collective
@@ -13,7 +13,7 @@ use Rattle.iccma_tasks.specs.declared.answer.Answer.TheVariants.{Yes, No, Sets}
 use Rattle.iccma_tasks.specs.declared.task.Problem.{Problem}
 use Rattle.iccma_tasks.specs.declared.task.Problem.TheVariants.{Credulous, Sceptical, SomeExtension, AllExtensions}
 use Rattle.iccma_tasks.specs.declared.task.Semantics.{Semantics}
-use Rattle.iccma_tasks.specs.declared.task.Semantics.TheVariants.{Complete, Grounded, Preferred, Stable, SemiStable, Ideal}
+use Rattle.iccma_tasks.specs.declared.task.Semantics.TheVariants.{Complete, Grounded, Preferred, Stable, SemiStable, Ideal, Stage}
 use Rattle.iccma_tasks.specs.Tasks.{Asked}
 
 -- the set is an extension of an abstract framework
@@ -24,6 +24,7 @@ IsExtensionOfAf f Preferred s = IsPreferred f s
 IsExtensionOfAf f Stable s = IsStable f s
 IsExtensionOfAf f SemiStable s = IsSemiStable f s
 IsExtensionOfAf f Ideal s = IsIdeal f s
+IsExtensionOfAf f Stage s = IsStage f s
 
 -- the set is an extension of an assumption-based framework
 abbrev pub IsExtensionOfAba : Aba → Semantics → List ℕ → Type 0
@@ -33,6 +34,7 @@ IsExtensionOfAba f Preferred s = collective.IsPreferred (collective_of f) s
 IsExtensionOfAba f Stable s = collective.IsStable (collective_of f) s
 IsExtensionOfAba f SemiStable s = collective.IsSemiStable (collective_of f) s
 IsExtensionOfAba f Ideal s = collective.IsIdeal (collective_of f) s
+IsExtensionOfAba f Stage s = collective.IsStage (collective_of f) s
 
 -- the same of a framework of any kind
 abbrev pub IsExtension : Framework → Semantics → List ℕ → Type 0

@@ -2,6 +2,7 @@
 
 use lists::Items;
 use meaning_atoms::{Atom, AtomLit};
+use semantics::Mode;
 use set_lists::NumSet;
 
 /// What has to be shown for an answer.
@@ -13,8 +14,8 @@ pub enum Row {
     Tested(NumSet),
     /// The set is admissible, accepts the query or not as the answer says, and lies in no larger admissible set.
     Largest(NumSet),
-    /// The set is admissible, accepts the query or not as the answer says, and no admissible set has a larger range.
-    Widest(NumSet),
+    /// The set is of the mode, accepts the query or not as the answer says, and no set of the mode has a larger range.
+    Widest(Mode, NumSet),
     /// No set makes these literals true.
     Excluded(Items<AtomLit>),
     /// The grounded set accepts the query, or doesn't.
@@ -22,9 +23,9 @@ pub enum Row {
     /// The certificate's sets are admissible and accept the query, and every admissible set that doesn't lies in one
     /// of them.
     Covered(u32),
-    /// The certificate's sets are admissible, and every admissible set that makes the literal true has its range in
+    /// The certificate's sets are of the mode, and every set of the mode that makes the literal true has its range in
     /// that of one of them, but none has all of such a range.
-    Ranged(AtomLit),
+    Ranged(Mode, AtomLit),
     /// The certificate's first set is the ideal set. The answer shows this set, if one, and says that the ideal set
     /// accepts the query or doesn't, if either.
     Ideal(Option<NumSet>, Option<bool>),
@@ -32,7 +33,7 @@ pub enum Row {
     AllTested(Atom, Items<NumSet>),
     /// The sets are admissible, none lies in another, and each admissible set lies in one of them.
     AllLargest(Items<NumSet>),
-    /// The sets are admissible, no range lies in another, each admissible set has its range in that of one of them,
-    /// and no other set has all of such a range.
-    AllWidest(Items<NumSet>),
+    /// The sets are of the mode, no range lies in another, each set of the mode has its range in that of one of them,
+    /// and no other set of the mode has all of such a range.
+    AllWidest(Mode, Items<NumSet>),
 }

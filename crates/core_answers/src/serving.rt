@@ -139,8 +139,10 @@ fn kinds_for(problem: Problem, semantics: Semantics) -> &'static [SideKind]
 {
     match (problem, semantics) {
         (_, Semantics::Preferred) => &[SideKind::Outside],
-        (Problem::AllExtensions, Semantics::SemiStable) => &[SideKind::Wider, SideKind::Differs],
-        (_, Semantics::SemiStable) => &[SideKind::Wider],
+        (Problem::AllExtensions, Semantics::SemiStable | Semantics::Stage) => {
+            &[SideKind::Wider, SideKind::Differs]
+        }
+        (_, Semantics::SemiStable | Semantics::Stage) => &[SideKind::Wider],
         (_, Semantics::Ideal) => &[SideKind::Outside, SideKind::Attacked],
         (Problem::AllExtensions, Semantics::Complete | Semantics::Stable) => &[SideKind::Differs],
         (_, Semantics::Complete | Semantics::Grounded | Semantics::Stable) => &[],

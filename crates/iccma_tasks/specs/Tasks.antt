@@ -4,7 +4,7 @@ use Rattle.std.specs.List.{join_with_byte}
 use Rattle.iccma_tasks.specs.declared.task.Problem.{Problem}
 use Rattle.iccma_tasks.specs.declared.task.Problem.TheVariants.{Credulous, Sceptical, SomeExtension, AllExtensions}
 use Rattle.iccma_tasks.specs.declared.task.Semantics.{Semantics}
-use Rattle.iccma_tasks.specs.declared.task.Semantics.TheVariants.{Complete, Grounded, Preferred, Stable, SemiStable, Ideal}
+use Rattle.iccma_tasks.specs.declared.task.Semantics.TheVariants.{Complete, Grounded, Preferred, Stable, SemiStable, Ideal, Stage}
 use Rattle.iccma_tasks.specs.declared.task.Kind.{Kind}
 use Rattle.iccma_tasks.specs.declared.task.Kind.TheVariants.{Af, Aba}
 use Rattle.iccma_tasks.specs.declared.task.Task.{Task}
@@ -24,6 +24,7 @@ semantics_name Preferred = codes "PR"
 semantics_name Stable = codes "ST"
 semantics_name SemiStable = codes "SST"
 semantics_name Ideal = codes "ID"
+semantics_name Stage = codes "STG"
 
 -- the two names with a dash between
 abbrev pub task_name : Task → List ℕ
@@ -33,12 +34,13 @@ abbrev pub task_of : Problem → Semantics → Task
 task_of problem semantics = record { problem = problem; semantics = semantics }
 
 -- frameworks of that kind have the task: all problems by all semantics, but that single sets are not enumerated, and
--- assumption-based frameworks have no semi-stable and no ideal sets
+-- assumption-based frameworks have no semi-stable, ideal and stage sets
 abbrev pub HasTask : Kind → Problem → Semantics → Type 0
 HasTask _ AllExtensions Grounded = ⊥
 HasTask _ AllExtensions Ideal = ⊥
 HasTask Aba _ SemiStable = ⊥
 HasTask Aba _ Ideal = ⊥
+HasTask Aba _ Stage = ⊥
 HasTask _ _ _ = Unit {0}
 
 abbrev pub IsTaskOf : Kind → Task → Type 0
@@ -53,13 +55,13 @@ abbrev pub tasks_of : Problem → List Semantics → List Task
 tasks_of problem list = map (task_of problem) list
 
 abbrev pub all_semantics : List Semantics
-all_semantics = Complete ∷ Grounded ∷ Preferred ∷ Stable ∷ SemiStable ∷ Ideal ∷ []
+all_semantics = Complete ∷ Grounded ∷ Preferred ∷ Stable ∷ SemiStable ∷ Ideal ∷ Stage ∷ []
 
 -- the semantics that may have several extensions
 abbrev pub plural_semantics : List Semantics
-plural_semantics = Complete ∷ Preferred ∷ Stable ∷ SemiStable ∷ []
+plural_semantics = Complete ∷ Preferred ∷ Stable ∷ SemiStable ∷ Stage ∷ []
 
--- all tasks: DC, DS, SE, each by CO, GR, PR, ST, SST, ID, and EE by CO, PR, ST, SST
+-- all tasks: DC, DS, SE, each by CO, GR, PR, ST, SST, ID, STG, and EE by CO, PR, ST, SST, STG
 abbrev pub all_tasks : List Task
 all_tasks = tasks_of Credulous all_semantics ++ tasks_of Sceptical all_semantics ++ tasks_of SomeExtension all_semantics
     ++ tasks_of AllExtensions plural_semantics

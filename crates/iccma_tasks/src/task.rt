@@ -34,6 +34,8 @@ pub enum Semantics {
     SemiStable,
     /// `ID`: the ideal set.
     Ideal,
+    /// `STG`: the stage sets.
+    Stage,
 }
 
 /// The kinds of framework.
@@ -91,6 +93,7 @@ impl Semantics {
             b"ST" => Some(Semantics::Stable),
             b"SST" => Some(Semantics::SemiStable),
             b"ID" => Some(Semantics::Ideal),
+            b"STG" => Some(Semantics::Stage),
             _ => None,
         }
     }
@@ -140,35 +143,40 @@ impl Task {
             (Problem::Credulous, Semantics::Stable) => b"DC-ST",
             (Problem::Credulous, Semantics::SemiStable) => b"DC-SST",
             (Problem::Credulous, Semantics::Ideal) => b"DC-ID",
+            (Problem::Credulous, Semantics::Stage) => b"DC-STG",
             (Problem::Sceptical, Semantics::Complete) => b"DS-CO",
             (Problem::Sceptical, Semantics::Grounded) => b"DS-GR",
             (Problem::Sceptical, Semantics::Preferred) => b"DS-PR",
             (Problem::Sceptical, Semantics::Stable) => b"DS-ST",
             (Problem::Sceptical, Semantics::SemiStable) => b"DS-SST",
             (Problem::Sceptical, Semantics::Ideal) => b"DS-ID",
+            (Problem::Sceptical, Semantics::Stage) => b"DS-STG",
             (Problem::SomeExtension, Semantics::Complete) => b"SE-CO",
             (Problem::SomeExtension, Semantics::Grounded) => b"SE-GR",
             (Problem::SomeExtension, Semantics::Preferred) => b"SE-PR",
             (Problem::SomeExtension, Semantics::Stable) => b"SE-ST",
             (Problem::SomeExtension, Semantics::SemiStable) => b"SE-SST",
             (Problem::SomeExtension, Semantics::Ideal) => b"SE-ID",
+            (Problem::SomeExtension, Semantics::Stage) => b"SE-STG",
             (Problem::AllExtensions, Semantics::Complete) => b"EE-CO",
             (Problem::AllExtensions, Semantics::Grounded) => b"EE-GR",
             (Problem::AllExtensions, Semantics::Preferred) => b"EE-PR",
             (Problem::AllExtensions, Semantics::Stable) => b"EE-ST",
             (Problem::AllExtensions, Semantics::SemiStable) => b"EE-SST",
             (Problem::AllExtensions, Semantics::Ideal) => b"EE-ID",
+            (Problem::AllExtensions, Semantics::Stage) => b"EE-STG",
         }
     }
 
     /// Whether it is asked of frameworks of that kind. All problems are, by all semantics, but for two: there is only one
-    /// grounded set and one ideal set to enumerate; and assumption-based frameworks have no semi-stable and no ideal sets here.
+    /// grounded set and one ideal set to enumerate; and assumption-based frameworks have no semi-stable, ideal and stage
+    /// sets here.
     pub fn is_for(self, kind: Kind) -> bool
         ensures { IsTrue result ↔ IsTaskOf kind self }
     {
         match (kind, self.problem, self.semantics) {
             (_, Problem::AllExtensions, Semantics::Grounded | Semantics::Ideal) => false,
-            (Kind::Aba, _, Semantics::SemiStable | Semantics::Ideal) => false,
+            (Kind::Aba, _, Semantics::SemiStable | Semantics::Ideal | Semantics::Stage) => false,
             _ => true,
         }
     }
@@ -189,6 +197,6 @@ impl TaskFault {
 pub fn problems() -> &'static [u8]
     ensures { result.now ≡ tasks_line }
 {
-    b"[DC-CO,DC-GR,DC-PR,DC-ST,DC-SST,DC-ID,DS-CO,DS-GR,DS-PR,DS-ST,DS-SST,DS-ID,\
-      SE-CO,SE-GR,SE-PR,SE-ST,SE-SST,SE-ID,EE-CO,EE-PR,EE-ST,EE-SST]\n"
+    b"[DC-CO,DC-GR,DC-PR,DC-ST,DC-SST,DC-ID,DC-STG,DS-CO,DS-GR,DS-PR,DS-ST,DS-SST,DS-ID,DS-STG,\
+      SE-CO,SE-GR,SE-PR,SE-ST,SE-SST,SE-ID,SE-STG,EE-CO,EE-PR,EE-ST,EE-SST,EE-STG]\n"
 }

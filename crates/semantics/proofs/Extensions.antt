@@ -2,12 +2,14 @@
 use Rattle.std.proofs.Common.{inl, inr, ⊎_elim, ℕ, List, [], ◌∷◌, ◌++◌, refl}
 use Rattle.std.specs.Prelude.{Contains}
 use Rattle.lists.proofs.Membership.{Contains-pushed}
-use Rattle.semantics.specs.Framework.{Af, IsAf, IsInRange, IsAdmissible, IsPreferred, IsStable, IsSemiStable}
+use Rattle.semantics.specs.declared.mode.Mode.{Mode}
+use Rattle.semantics.specs.declared.mode.Mode.TheVariants.{Cf, Ad}
+use Rattle.semantics.specs.Framework.{Af, IsAf, IsInRange, IsAdmissible, IsPreferred, IsStable, IsOfMode, IsWidest, IsSemiStable}
 use Rattle.semantics.specs.Laws.{GroundedIsUnique, StableIsLargest, PreferredIsComplete, SemiStableIsPreferred, UnattackedIsInAll, AttacksMember, IdealIsUnique}
 use Rattle.semantics.proofs.Decided.{decide_member}
 use Rattle.semantics.proofs.AdmissibleSets.{added_admissible, union_admissible, within_left, within_right}
 use Rattle.semantics.proofs.Grounded.{grounded_exists}
-use Rattle.semantics.proofs.SameMembers.{range_more}
+use Rattle.semantics.proofs.SameMembers.{range_more, mode_live}
 use Rattle.semantics.proofs.Existence.{ideal_exists}
 
 pub grounded_unique : (f : Af) → GroundedIsUnique f
@@ -28,6 +30,14 @@ stable_admissible f form s st = record {
 covers : (f : Af) (s : List ℕ) → IsStable f s → (a : ℕ) → Contains f.live a → IsInRange f s a
 covers f s st a live = ⊎_elim (λ c. inl c) (λ no. inr (st.attacks_outside a live no)) (decide_member s a)
 
+stable_widest : (mode : Mode) (f : Af) → IsAf f → (s : List ℕ) → IsStable f s → IsOfMode mode f s → IsWidest mode f s
+stable_widest mode f form s st own = record {
+  has_mode = own;
+  widest = λ t ok wider a h. ⊎_elim
+      (λ c. covers f s st a (mode_live mode f t ok a c))
+      (λ hit. covers f s st a (form.ends hit.0 a hit.2).1) h;
+}
+
 pub stable_largest : (f : Af) → IsAf f → StableIsLargest f
 stable_largest f form = record {
   preferred = λ s st. record {
@@ -36,12 +46,8 @@ stable_largest f form = record {
         (λ h. absurd (ok.conflict_free.apart h.0 x (sub h.0 h.1) c h.2))
         (covers f s st x (ok.conflict_free.live x c));
   };
-  semi_stable = λ s st. record {
-    admissible = stable_admissible f form s st;
-    widest = λ t ok wider a h. ⊎_elim
-        (λ c. covers f s st a (ok.conflict_free.live a c))
-        (λ hit. covers f s st a (form.ends hit.0 a hit.2).1) h;
-  };
+  semi_stable = λ s st. stable_widest Ad f form s st (stable_admissible f form s st);
+  stage = λ s st. stable_widest Cf f form s st st.conflict_free;
 }
 
 pub preferred_complete : (f : Af) → PreferredIsComplete f
@@ -55,7 +61,7 @@ preferred_complete f s p = record {
 -- where no admissible set has a larger range, none is larger
 widest_preferred : (f : Af) (s : List ℕ) → IsSemiStable f s → IsPreferred f s
 widest_preferred f s w = record {
-  admissible = w.admissible;
+  admissible = w.has_mode;
   maximal = λ t ok sub x c. ⊎_elim (λ k. k) (λ hit. absurd (ok.conflict_free.apart hit.0 x (sub hit.0 hit.1) c hit.2))
       (w.widest t ok (range_more f s t sub) x (inl c));
 }

@@ -6,4 +6,5 @@ pub mod SameMembers
 pub mod ListedSets
 pub mod SetsLemmas
 pub mod Existence
+pub mod WidestSets
 pub mod Extensions

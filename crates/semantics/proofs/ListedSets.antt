@@ -2,10 +2,11 @@
 use Rattle.std.proofs.Common.{◌≡◌, inl, inr, ⊎_elim, ℕ, Bool, List, [], ◌∷◌, ◌++◌, map, refl, sym, subst}
 use Rattle.std.specs.Prelude.{◌↔◌, Contains, IsTrue}
 use Rattle.lists.specs.Members.{IsWithin}
-use Rattle.semantics.specs.Framework.{Af, IsAttackedBy, Attacks, Defends, IsInRange, IsAdmissible, IsComplete, IsPreferred, IsRangeWithin, IsInAllPreferred}
+use Rattle.semantics.specs.Framework.{Af, IsAttackedBy, Attacks, Defends, IsInRange, IsAdmissible, IsComplete, IsPreferred, IsOfMode, IsRangeWithin, IsInAllPreferred}
 use Rattle.semantics.specs.Compared.{HasNoLarger, HasNoWider, HoldsInAll, IsInComplete, IsInPreferred}
 use Rattle.semantics.specs.Sets.{IsListed, HasAllSets}
-use Rattle.semantics.proofs.SameMembers.{turned, range_more, admissible_same, complete_same, preferred_same, in_all_same}
+use Rattle.semantics.specs.declared.mode.Mode.{Mode}
+use Rattle.semantics.proofs.SameMembers.{turned, range_more, mode_live, mode_same, admissible_same, complete_same, preferred_same, in_all_same}
 
 pub in_complete : (f : Af) (sets : List (List ℕ)) (s : List ℕ) → HasAllSets f.live sets
     → ((t : List ℕ) → Contains sets t → IsInComplete f s t) → (t : List ℕ) → IsComplete f t → IsWithin s t
@@ -21,12 +22,12 @@ no_larger f sets s all h t ok sub x c =
     (h l.set l.member).back (admissible_same f t l.set (turned l.set t l.same) ok) (λ y k. l.same.back y (sub y k)) x
     (l.same.back x c)
 
-pub no_wider : (f : Af) (sets : List (List ℕ)) (s : List ℕ) → HasAllSets f.live sets
-    → ((t : List ℕ) → Contains sets t → HasNoWider f s t)
-    → (t : List ℕ) → IsAdmissible f t → IsRangeWithin f s t → IsRangeWithin f t s
-no_wider f sets s all h t ok sub a c =
-    let l = all t ok.conflict_free.live in
-    (h l.set l.member).back (admissible_same f t l.set (turned l.set t l.same) ok)
+pub no_wider : (mode : Mode) (f : Af) (sets : List (List ℕ)) (s : List ℕ) → HasAllSets f.live sets
+    → ((t : List ℕ) → Contains sets t → HasNoWider mode f s t)
+    → (t : List ℕ) → IsOfMode mode f t → IsRangeWithin f s t → IsRangeWithin f t s
+no_wider mode f sets s all h t ok sub a c =
+    let l = all t (mode_live mode f t ok) in
+    (h l.set l.member).back (mode_same mode f t l.set (turned l.set t l.same) ok)
     (λ y k. range_more f t l.set l.same.back y (sub y k)) a (range_more f t l.set l.same.back a c)
 
 pub in_preferred : (f : Af) (sets : List (List ℕ)) (s : List ℕ) → HasAllSets f.live sets

@@ -2,7 +2,9 @@
 use Rattle.std.proofs.Common.{inl, inr, ⊎_elim, ℕ, List}
 use Rattle.std.specs.Prelude.{Contains}
 use Rattle.lists.specs.Members.{IsWithin}
-use Rattle.semantics.specs.Framework.{Af, IsConflictFree, IsAdmissible, IsComplete, IsPreferred, IsRangeWithin, IsInAllPreferred}
+use Rattle.semantics.specs.Framework.{Af, IsConflictFree, IsAdmissible, IsComplete, IsPreferred, IsOfMode, IsRangeWithin, IsInAllPreferred}
+use Rattle.semantics.specs.declared.mode.Mode.{Mode}
+use Rattle.semantics.specs.declared.mode.Mode.TheVariants.{Cf, Ad}
 use Rattle.semantics.specs.Laws.{HasSameMembers}
 use Rattle.semantics.proofs.AdmissibleSets.{attacked_more, defends_more}
 
@@ -23,6 +25,15 @@ admissible_same f s t same ok = record {
   conflict_free = conflict_free_same f s t same ok.conflict_free;
   defended = λ a c. defends_more f s t a same.there (ok.defended a (same.back a c));
 }
+
+-- sets of a mode hold live arguments alone, and only their members count
+pub mode_live : (mode : Mode) (f : Af) (s : List ℕ) → IsOfMode mode f s → IsWithin s f.live
+mode_live Cf f s ok = ok.live
+mode_live Ad f s ok = ok.conflict_free.live
+
+pub mode_same : (mode : Mode) (f : Af) (s t : List ℕ) → HasSameMembers s t → IsOfMode mode f s → IsOfMode mode f t
+mode_same Cf f s t same ok = conflict_free_same f s t same ok
+mode_same Ad f s t same ok = admissible_same f s t same ok
 
 pub complete_same : (f : Af) (s t : List ℕ) → HasSameMembers s t → IsComplete f s → IsComplete f t
 complete_same f s t same co = record {

@@ -4,13 +4,17 @@
 -- of attacking arguments", ArgMAS 2006. The notions are those of P. M. Dung, "On the acceptability of arguments and
 -- its fundamental role in nonmonotonic reasoning, logic programming and n-person games", Artificial Intelligence 77
 -- (1995), and, for ideal sets, of P. M. Dung, P. Mancarella, F. Toni, "Computing ideal sceptical argumentation",
--- Artificial Intelligence 171 (2007), with attacks by sets in the place of attacks by arguments; for semi-stable sets, of
+-- Artificial Intelligence 171 (2007), with attacks by sets in the place of attacks by arguments; for stage sets, of
+-- B. Verheij, "Two approaches to dialectical argumentation: admissible sets and argumentation stages", NAIC 1996; for
+-- semi-stable sets, of
 -- M. Caminada, S. Sá, J. Alcântara, W. Dvořák, "On the difference between assumption-based argumentation and abstract
 -- argumentation", IfCoLog Journal of Logics and their Applications 2 (2015).
 --
 -- A set is any list of numbers, of which only the members count.
 use Rattle.std.specs.Prelude.{◌⊎◌, ℕ, List, Contains}
 use Rattle.lists.specs.Members.{IsWithin}
+use Rattle.semantics.specs.declared.mode.Mode.{Mode}
+use Rattle.semantics.specs.declared.mode.Mode.TheVariants.{Cf, Ad}
 
 -- a framework with collective attacks: its live arguments, and which sets attack which arguments
 pub record Collective : Type 1 where
@@ -73,10 +77,23 @@ IsInRange d s a = Contains s a ⊎ d.attacks s a
 abbrev pub IsRangeWithin : Collective → List ℕ → List ℕ → Type 0
 IsRangeWithin d s t = (a : ℕ) → Contains d.live a → IsInRange d s a → IsInRange d t a
 
+-- conflict-free, or admissible
+abbrev pub IsOfMode : Mode → Collective → List ℕ → Type 0
+IsOfMode Cf d s = IsConflictFree d s
+IsOfMode Ad d s = IsAdmissible d s
+
+-- of the mode, and no set of the mode has a larger range
+pub record IsWidest (mode : Mode) (d : Collective) (s : List ℕ) : Type 0 where
+  pub has_mode : IsOfMode mode d s
+  pub widest : (t : List ℕ) → IsOfMode mode d t → IsRangeWithin d s t → IsRangeWithin d t s
+
 -- admissible, and no admissible set has a larger range (Caminada et al. 2015)
-pub record IsSemiStable (d : Collective) (s : List ℕ) : Type 0 where
-  pub admissible : IsAdmissible d s
-  pub widest : (t : List ℕ) → IsAdmissible d t → IsRangeWithin d s t → IsRangeWithin d t s
+abbrev pub IsSemiStable : Collective → List ℕ → Type 0
+IsSemiStable d s = IsWidest Ad d s
+
+-- conflict-free, and no conflict-free set has a larger range (Verheij 1996)
+abbrev pub IsStage : Collective → List ℕ → Type 0
+IsStage d s = IsWidest Cf d s
 
 -- admissible, and part of every preferred set
 pub record IsInAllPreferred (d : Collective) (s : List ℕ) : Type 0 where

@@ -2,14 +2,17 @@
 --
 -- Sources: P. M. Dung, "On the acceptability of arguments and its fundamental role in nonmonotonic
 -- reasoning, logic programming and n-person games", Artificial Intelligence 77 (1995); M. Caminada,
--- "Semi-stable semantics", COMMA 2006; P. M. Dung, P. Mancarella, F. Toni, "Computing ideal sceptical
--- argumentation", Artificial Intelligence 171 (2007).
+-- "Semi-stable semantics", COMMA 2006; B. Verheij, "Two approaches to dialectical argumentation: admissible sets and
+-- argumentation stages", NAIC 1996; P. M. Dung, P. Mancarella, F. Toni, "Computing ideal sceptical argumentation",
+-- Artificial Intelligence 171 (2007).
 --
 -- A set of arguments is any list of numbers, of which only the members count. Every notion ranges over
 -- all such lists, and so over all finite sets of numbers.
 use Rattle.std.specs.Prelude.{◌≡◌, ℕ, ◌<◌, List, Contains, length, slice_index_or, ◌⊎◌}
 use Rattle.std.specs.List.Sorted.{IsStrictlyIncreasing}
 use Rattle.lists.specs.Members.{IsWithin}
+use Rattle.semantics.specs.declared.mode.Mode.{Mode}
+use Rattle.semantics.specs.declared.mode.Mode.TheVariants.{Cf, Ad}
 
 -- an abstract framework: the live arguments, and the attacks between them (Dung 1995, definition 2)
 pub record Af : Type 0 where
@@ -79,10 +82,23 @@ IsInRange f s a = Contains s a ⊎ IsAttackedBy f s a
 abbrev pub IsRangeWithin : Af → List ℕ → List ℕ → Type 0
 IsRangeWithin f s t = (a : ℕ) → IsInRange f s a → IsInRange f t a
 
+-- conflict-free, or admissible
+abbrev pub IsOfMode : Mode → Af → List ℕ → Type 0
+IsOfMode Cf f s = IsConflictFree f s
+IsOfMode Ad f s = IsAdmissible f s
+
+-- of the mode, and no set of the mode has a larger range
+pub record IsWidest (mode : Mode) (f : Af) (s : List ℕ) : Type 0 where
+  pub has_mode : IsOfMode mode f s
+  pub widest : (t : List ℕ) → IsOfMode mode f t → IsRangeWithin f s t → IsRangeWithin f t s
+
 -- admissible, and no admissible set has a larger range (Caminada 2006)
-pub record IsSemiStable (f : Af) (s : List ℕ) : Type 0 where
-  pub admissible : IsAdmissible f s
-  pub widest : (t : List ℕ) → IsAdmissible f t → IsRangeWithin f s t → IsRangeWithin f t s
+abbrev pub IsSemiStable : Af → List ℕ → Type 0
+IsSemiStable f s = IsWidest Ad f s
+
+-- conflict-free, and no conflict-free set has a larger range (Verheij 1996)
+abbrev pub IsStage : Af → List ℕ → Type 0
+IsStage f s = IsWidest Cf f s
 
 -- admissible, and part of every preferred set (Dung, Mancarella, Toni 2007)
 pub record IsInAllPreferred (f : Af) (s : List ℕ) : Type 0 where

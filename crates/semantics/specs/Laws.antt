@@ -1,7 +1,8 @@
 -- Laws that show the notions of Framework to be the literature's.
 use Rattle.std.specs.Prelude.{List, ℕ, Contains, ◌++◌}
 use Rattle.lists.specs.Members.{IsWithin}
-use Rattle.semantics.specs.Framework.{Af, IsAttackedBy, IsAdmissible, IsComplete, IsGrounded, IsPreferred, IsStable, IsSemiStable, IsInAllPreferred, IsIdeal}
+use Rattle.semantics.specs.declared.mode.Mode.{Mode}
+use Rattle.semantics.specs.Framework.{Af, IsAttackedBy, IsAdmissible, IsComplete, IsGrounded, IsPreferred, IsStable, IsOfMode, IsRangeWithin, IsWidest, IsSemiStable, IsStage, IsInAllPreferred, IsIdeal}
 
 -- the two lists have the same members
 pub record HasSameMembers (s t : List ℕ) : Type 0 where
@@ -16,10 +17,12 @@ pub record GroundedIsUnique (f : Af) : Type 0 where
   pub admissible : (s : List ℕ) → IsGrounded f s → IsAdmissible f s
   pub in_complete : (s t : List ℕ) → IsGrounded f s → IsComplete f t → IsWithin s t
 
--- each stable set is preferred, and no admissible set has a larger range (Dung 1995, lemma 15; Caminada 2006)
+-- each stable set is preferred, and no admissible or conflict-free set has a larger range (Dung 1995, lemma 15; Caminada
+-- 2006; Verheij 1996)
 pub record StableIsLargest (f : Af) : Type 0 where
   pub preferred : (s : List ℕ) → IsStable f s → IsPreferred f s
   pub semi_stable : (s : List ℕ) → IsStable f s → IsSemiStable f s
+  pub stage : (s : List ℕ) → IsStable f s → IsStage f s
 
 -- each preferred set is complete (Dung 1995, theorem 25)
 abbrev pub PreferredIsComplete : Af → Type 0
@@ -37,6 +40,12 @@ AdmissibleIsInPreferred f = (s : List ℕ) → IsAdmissible f s → (p : List �
 pub record SemiStableIsPreferred (f : Af) : Type 0 where
   pub preferred : (s : List ℕ) → IsSemiStable f s → IsPreferred f s
   pub complete : (s : List ℕ) → IsSemiStable f s → IsComplete f s
+
+-- the range of each conflict-free or admissible set lies in that of a widest one: so there is a stage set, and a
+-- semi-stable one
+abbrev pub WidestExists : Af → Type 0
+WidestExists f = (mode : Mode) (s : List ℕ) → IsOfMode mode f s
+    → (w : List ℕ) × IsWidest mode f w × IsRangeWithin f s w
 
 -- two admissible sets of which neither attacks the other make an admissible set together
 abbrev pub UnionIsAdmissible : Af → Type 0

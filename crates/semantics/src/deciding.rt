@@ -3,12 +3,13 @@
 //! ideal set the time of 8 to the power n tests of one set.
 
 ghost use Rattle.std.specs.Prelude.{◌↔◌, ℕ, List, Contains, IsTrue, IfOk};
-ghost use Rattle.semantics.specs.Framework.{IsGrounded, IsPreferred, IsSemiStable, IsInAllPreferred, IsIdeal};
+ghost use Rattle.semantics.specs.Framework.{IsGrounded, IsPreferred, IsOfMode, IsWidest, IsInAllPreferred, IsIdeal};
 ghost use Rattle.semantics.specs.Compared.{HasNoLarger, HasNoWider, HoldsInAll, IsInComplete, IsInPreferred};
 ghost use Rattle.semantics.specs.Notions.{AfOf, IsOfNotion};
 ghost use Rattle.semantics.specs.Sets.{HasAllSets};
 
 use crate::af_lists::{AfLists, is_within};
+use crate::mode::Mode;
 use crate::sets::sets_of;
 use lists::{Items, Memory};
 use std::alloc::Global;
@@ -30,6 +31,8 @@ pub enum Notion {
     Stable,
     /// Admissible, and no admissible set has a larger range.
     SemiStable,
+    /// Conflict-free, and no conflict-free set has a larger range.
+    Stage,
     /// Admissible, and part of every preferred set.
     InAllPreferred,
     /// The largest admissible set that is part of every preferred set.
@@ -54,7 +57,8 @@ pub fn decide(
         Notion::Grounded => is_grounded(framework, sets, set),
         Notion::Preferred => is_preferred(framework, sets, set),
         Notion::Stable => framework.is_stable(set),
-        Notion::SemiStable => is_semi_stable(framework, sets, set),
+        Notion::SemiStable => is_widest(framework, Mode::Ad, sets, set),
+        Notion::Stage => is_widest(framework, Mode::Cf, sets, set),
         Notion::InAllPreferred => is_in_all_preferred(framework, sets, set),
         Notion::Ideal => is_ideal(framework, sets, set),
     };
@@ -75,11 +79,20 @@ fn is_preferred(f: &AfLists, sets: &[Items<u32>], set: &[u32]) -> bool
     f.is_admissible(set) && is_maximal(f, sets, set)
 }
 
-fn is_semi_stable(f: &AfLists, sets: &[Items<u32>], set: &[u32]) -> bool
+fn is_widest(f: &AfLists, mode: Mode, sets: &[Items<u32>], set: &[u32]) -> bool
     requires { HasAllSets f.now.live.now sets.now }
-    ensures { IsTrue result ↔ IsSemiStable (AfOf f.now) set.now }
+    ensures { IsTrue result ↔ IsWidest mode (AfOf f.now) set.now }
 {
-    f.is_admissible(set) && is_widest(f, sets, set)
+    is_of_mode(f, mode, set) && is_nowhere_wider(f, mode, sets, set)
+}
+
+fn is_of_mode(f: &AfLists, mode: Mode, set: &[u32]) -> bool
+    ensures { IsTrue result ↔ IsOfMode mode (AfOf f.now) set.now }
+{
+    match mode {
+        Mode::Cf => f.is_conflict_free(set),
+        Mode::Ad => f.is_admissible(set),
+    }
 }
 
 fn is_in_all_preferred(f: &AfLists, sets: &[Items<u32>], set: &[u32]) -> bool
@@ -130,18 +143,18 @@ fn has_no_larger(f: &AfLists, set: &[u32], other: &[u32]) -> bool
     is_within(other, set)
 }
 
-/// Whether each admissible one of the sets whose range holds this set's has no larger range.
-fn is_widest(f: &AfLists, sets: &[Items<u32>], set: &[u32]) -> bool
-    ensures { IsTrue result ↔ ((t : List ℕ) → Contains sets.now t → HasNoWider (AfOf f.now) set.now t) }
+/// Whether each of the sets that is of the mode, and whose range holds this set's, has no larger range.
+fn is_nowhere_wider(f: &AfLists, mode: Mode, sets: &[Items<u32>], set: &[u32]) -> bool
+    ensures { IsTrue result ↔ ((t : List ℕ) → Contains sets.now t → HasNoWider mode (AfOf f.now) set.now t) }
 {
     sets.iter()
-        .all(|other| has_no_wider(f, set, other.as_slice()))
+        .all(|other| has_no_wider(f, mode, set, other.as_slice()))
 }
 
-fn has_no_wider(f: &AfLists, set: &[u32], other: &[u32]) -> bool
-    ensures { IsTrue result ↔ HasNoWider (AfOf f.now) set.now other.now }
+fn has_no_wider(f: &AfLists, mode: Mode, set: &[u32], other: &[u32]) -> bool
+    ensures { IsTrue result ↔ HasNoWider mode (AfOf f.now) set.now other.now }
 {
-    if !f.is_admissible(other) {
+    if !is_of_mode(f, mode, other) {
         return true;
     }
     if !f.is_range_within(set, other) {

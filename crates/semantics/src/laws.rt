@@ -2,14 +2,14 @@
 //! is the law.
 
 ghost use Rattle.semantics.specs.Framework.{Af, IsAf};
-ghost use Rattle.semantics.specs.Laws.{GroundedIsUnique, StableIsLargest, PreferredIsComplete, SemiStableIsPreferred, AdmissibleIsInPreferred, UnionIsAdmissible, UnattackedIsInAll, IdealIsUnique};
+ghost use Rattle.semantics.specs.Laws.{GroundedIsUnique, StableIsLargest, PreferredIsComplete, SemiStableIsPreferred, AdmissibleIsInPreferred, WidestExists, UnionIsAdmissible, UnattackedIsInAll, IdealIsUnique};
 
 /// A framework has one grounded set alone, which is admissible and lies in every complete set.
 pub fn grounded_is_unique()
     ensures { (f : Af) → GroundedIsUnique f }
 {}
 
-/// A stable set of a well-formed framework is preferred and semi-stable.
+/// A stable set of a well-formed framework is preferred, semi-stable and a stage set.
 pub fn stable_is_largest()
     ensures { (f : Af) → IsAf f → StableIsLargest f }
 {}
@@ -27,6 +27,11 @@ pub fn semi_stable_is_preferred()
 /// An admissible set is part of a preferred one, which may be the set itself.
 pub fn admissible_is_in_preferred()
     ensures { (f : Af) → AdmissibleIsInPreferred f }
+{}
+
+/// The range of a conflict-free or admissible set lies in that of a widest one, which may be the set itself.
+pub fn widest_exists()
+    ensures { (f : Af) → WidestExists f }
 {}
 
 /// Two admissible sets that do not attack each other make an admissible set together.

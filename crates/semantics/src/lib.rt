@@ -7,6 +7,7 @@ pub mod argument;
 pub mod deciding;
 pub mod laws;
 pub mod limits;
+pub mod mode;
 pub mod numbers;
 pub mod sets;
 
@@ -14,4 +15,5 @@ pub use af_lists::AfLists;
 pub use argument::{MAX_ARGUMENT, is_argument};
 pub use deciding::{Notion, decide};
 pub use limits::MAX_EXTENSIONS;
+pub use mode::Mode;
 pub use numbers::{MAX_ATOM, MAX_RULE};

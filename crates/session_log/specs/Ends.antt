@@ -7,7 +7,8 @@ use Rattle.plain_lits.specs.HintCheck.{Checks}
 use Rattle.plain_lits.specs.Units.{Units}
 use Rattle.semantics.specs.Frameworks.{Framework}
 use Rattle.semantics.specs.Laws.{HasSameMembers}
-use Rattle.meaning_atoms.specs.declared.atom.Atom.TheVariants.{Ad}
+use Rattle.meaning_atoms.specs.declared.atom.Atom.{Atom}
+use Rattle.meaning_atoms.specs.declared.atom.Atom.TheVariants.{Cf, Ad}
 use Rattle.meaning_atoms.specs.declared.atom.AtomLit.{AtomLit}
 use Rattle.meaning_atoms.specs.declared.axiom.AxiomName.{AxiomName}
 use Rattle.meaning_atoms.specs.Literals.{negated}
@@ -18,7 +19,7 @@ use Rattle.iccma_tasks.specs.declared.task.Problem.{Problem}
 use Rattle.iccma_tasks.specs.declared.task.Problem.TheVariants.{Sceptical, SomeExtension, AllExtensions}
 use Rattle.iccma_tasks.specs.declared.task.Semantics.{Semantics}
 use Rattle.iccma_tasks.specs.declared.task.Semantics.TheVariants.{Complete, Grounded, Preferred, Stable, SemiStable}
-use Rattle.iccma_tasks.specs.declared.task.Semantics.TheVariants.{Ideal}
+use Rattle.iccma_tasks.specs.declared.task.Semantics.TheVariants.{Ideal, Stage}
 use Rattle.iccma_tasks.specs.Tasks.{Asked, task_of}
 use Rattle.oracle_face.specs.certificate_claims.specs.Acceptance.{Tests, no_claim}
 use Rattle.oracle_face.specs.certificate_claims.specs.Claims.{claims, row_of, sets_of}
@@ -39,17 +40,24 @@ abbrev pub sides_for : Framework → Problem → Semantics → List ℕ → List
 sides_for f problem Preferred e = outside f e ∷ []
 sides_for f AllExtensions SemiStable e = wider f e ∷ differs f e ∷ []
 sides_for f problem SemiStable e = wider f e ∷ []
+sides_for f AllExtensions Stage e = wider f e ∷ differs f e ∷ []
+sides_for f problem Stage e = wider f e ∷ []
 sides_for f problem Ideal e = outside f e ∷ attacked f e ∷ []
 sides_for f AllExtensions Complete e = differs f e ∷ []
 sides_for f AllExtensions Stable e = differs f e ∷ []
 sides_for f problem semantics e = []
 
--- the side clause is one of these, and made from an admissible set
+-- what the sets are that they are made from: conflict-free for a query by stage sets, else admissible
+abbrev pub side_mode : Semantics → Atom
+side_mode Stage = Cf
+side_mode _ = Ad
+
+-- the side clause is one of these, and made from an admissible set, or for a query by stage sets from a conflict-free one
 pub record SideServes (f : Framework) (asked : Asked) (literals : List AtomLit) (set : List ℕ) : Type 0 where
   pub side : List AtomLit
   pub listed : Contains (sides_for f asked.task.problem asked.task.semantics set) side
   pub same : IsSameClause literals side
-  pub admissible : HoldsOf f set Ad
+  pub has_mode : HoldsOf f set (side_mode asked.task.semantics)
 
 -- the side clauses that may be made for a query
 abbrev pub MadeFor : Framework → Asked → Making
