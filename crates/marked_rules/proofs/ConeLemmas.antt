@@ -1,7 +1,7 @@
 -- The cone of a set decides whether the set defends its members.
 use Rattle.std.proofs.Common.{◌≡◌, ℕ, ◌+◌, ◌-◌, ◌<◌, ◌≤◌, Bool, true, false, cond, List, [], ◌∷◌, ◌++◌, length, get_or, set, map, filter, replicate, arith, refl, subst, sym, ap, ◌∙◌, inl, inr, ⊎_elim, eqb, eq-eqb}
 use Rattle.std.specs.Prelude.{◌↔◌, ◌⊎◌, Contains, IsTrue}
-use Rattle.std.proofs.lemmas.Bool.{cases_eq}
+use Rattle.std.proofs.lemmas.Bool.{cases_eq, false≢true}
 use Rattle.std.proofs.lemmas.List.{append-nil, append_assoc, length-append, length-set, length-replicate, get_or-set_other, get_or_default, get_or_append_left}
 use Rattle.std.proofs.lemmas.List.Elements.{Contains-get_or, Contains-append_left, Contains-append_right}
 use Rattle.std.proofs.lemmas.List.Sums.{sum_by-set}
@@ -57,6 +57,10 @@ admissible_by_cone f s atoms kept r free cone exact test =
 
 -- ---- atoms are reached
 
+pub fresh_by : (b r : Bool) → r ≡ false → (IsTrue b → IsTrue r) → b ≡ false
+fresh_by false r no_r sub = refl
+fresh_by true r no_r sub = absurd (false≢true (sym no_r ∙ sub refl))
+
 pub reaches_not : (P : ℕ → Type 0) (c : Cone) → AreListed c → ((x : ℕ) → P x → Contains c.atoms.items x) → Reaches P c c
 reaches_not P c listed there = record {
   long = refl;
@@ -67,13 +71,16 @@ reaches_not P c listed there = record {
   spent = refl;
 }
 
+abbrev count_open : Bool → ℕ
+count_open m = cond m 0 1
+
 -- an atom that is not marked is added
 pub reaches_one : (atom : ℕ) (old new : Cone) → AreListed old → atom < length old.reached
     → is_marked old.reached atom ≡ false → new.reached ≡ set old.reached atom true
     → new.atoms.items ≡ old.atoms.items ++ atom ∷ [] → Reaches (λ x. x ≡ atom) old new
 reaches_one atom old new listed lt fresh marks is =
-    let falls = sum_by-set (λ (m : Bool). cond m 0 1) old.reached atom true false lt in
-    let open' : cond (get_or old.reached atom false) 0 1 ≡ 1 = ap (λ m. cond m 0 1) fresh in
+    let falls = sum_by-set count_open old.reached atom true false lt in
+    let one : count_open (get_or old.reached atom false) ≡ 1 = ap count_open fresh in
     let more : length new.atoms.items ≡ length old.atoms.items + 1 =
     ap length is ∙ length-append old.atoms.items (atom ∷ []) in
     record {
@@ -88,7 +95,7 @@ reaches_one atom old new listed lt fresh marks is =
       atoms_are = is;
       gains = λ x e. subst (λ l. Contains l x) (sym is)
           (Contains-append_right old.atoms.items (atom ∷ []) x (Contains-head atom [] x (sym e)));
-      spent = rw marks (omega (arith, falls, open', more));
+      spent = rw marks (omega (arith, falls, one, more));
     }
 
 -- one step after another
@@ -256,7 +263,7 @@ followed_next f first n old new lt before reaches =
     ap length reaches.atoms_are ∙ length-append old.atoms.items reaches.added in
     let same : (j : ℕ) → j < n + 1 → get_or new.atoms.items j 0 ≡ get_or old.atoms.items j 0 =
     λ j low. ap (λ l. get_or l j 0) reaches.atoms_are
-    ∙ get_or_append_left old.atoms.items reaches.added j 0 (omega (arith, low, lt)) in
+    ∙ get_or_append_left old.atoms.items reaches.added 0 j (omega (arith, low, lt)) in
     record {
       within = omega (arith, lt, grown);
       long = omega (arith, before.long, reaches.long);

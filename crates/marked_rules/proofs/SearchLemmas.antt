@@ -1,6 +1,6 @@
 -- The steps of a search for what a set derives, from the common start.
-use Rattle.std.proofs.Common.{◌≡◌, ℕ, ◌+◌, ◌-◌, ◌<◌, ◌≤◌, Bool, true, false, not, cond, List, [], ◌∷◌, ◌++◌, length, get_or, set, sum, replicate, filter, arith, refl, sym, ap, subst, ◌∙◌, ⊎_elim, eqb}
-use Rattle.std.specs.Prelude.{◌↔◌, Contains, IsTrue}
+use Rattle.std.proofs.Common.{◌≡◌, ℕ, ◌+◌, ◌-◌, ◌<◌, ◌≤◌, Bool, true, false, not, cond, List, [], ◌∷◌, ◌++◌, length, get_or, set, replicate, filter, arith, refl, sym, ap, subst, ◌∙◌, ⊎_elim, eqb}
+use Rattle.std.specs.Prelude.{◌↔◌, Contains, IsTrue, sum}
 use Rattle.std.proofs.lemmas.Bool.{cases_Bool, cases_eq, cases_lt, false≢true}
 use Rattle.std.proofs.lemmas.List.{length-set, get_or-set_same, get_or-set_other, get_or_default, get_or_past, set_past, set-get_or}
 use Rattle.semantics.specs.Rules.{Rule, Derives, given}
@@ -204,6 +204,13 @@ module _ (f : Aba) (u : RuleUses) where
   pub goes_not : (due : ℕ) (c : Closing) → IsSearch f u (IsMarked (derived_in u c)) due c → GoesOnTo f u due c c
   goes_not due c h = record { search = h; wide = refl; stays = λ x was. was }
 
+  -- there is a count for each rule
+  pub rule_counted : (Given : ℕ → Type 0) (due : ℕ) (c : Closing) (k : ℕ) → k < length (heads_of f)
+      → IsSearch f u Given due c → k < length u.start.open.items
+  rule_counted Given due c k lt h =
+      omega (arith, lt, h.state.long,
+      length_overlaid 0 u.start.open.items c.open.changed (λ j. get_or c.open.left.items j 0))
+
   -- a rule more has fired
   pub fires_next : (k : ℕ) (first old new : Closing) → k < length (heads_of f) → GoesOnTo f u k first old
       → FiresClosing f u k old new → GoesOnTo f u (k + 1) first new
@@ -246,6 +253,15 @@ module _ (f : Aba) (u : RuleUses) where
         n.2,
       )
 
+  -- the counts fall with each
+  pub use_falls : (Given : ℕ → Type 0) (due : ℕ) (c : Closing) (front : List (ℕ × ℕ)) (p : ℕ × ℕ)
+      → IsSearch f u Given due c → c.pending.items ≡ front ++ p ∷ []
+      → sum (set (open_in u c) p.1 (get_or (open_in u c) p.1 0 - 1)) < sum (open_in u c)
+  use_falls Given due c front p h is =
+      let n = counts_it f.rules (heads_of f) u.uses.pairs Given due (derived_in u c) (open_in u c) c.pending.items
+      front p h.state is in
+      falls f.rules (heads_of f) u.uses.pairs (open_in u c) p.1 n.1 n.2
+
   -- a pending use has been taken off, and its rule has fired
   pub settles : (first old between new : Closing) (front : List (ℕ × ℕ)) (p : ℕ × ℕ)
       → GoesOnTo f u (length (heads_of f)) first old → old.pending.items ≡ front ++ p ∷ []
@@ -268,6 +284,21 @@ module _ (f : Aba) (u : RuleUses) where
         wide = on.0;
         stays = on.1;
       }
+
+  -- an empty list of pending uses for another
+  pub goes_same : (due : ℕ) (first c new : Closing) → new.derived ≡ c.derived → new.open ≡ c.open
+      → new.pending.items ≡ c.pending.items → GoesOnTo f u due first c → GoesOnTo f u due first new
+  goes_same due first c new derived counts pending h = record {
+    search = record {
+      fits = record {
+        wide = ap length derived ∙ h.search.fits.wide;
+        counts = subst (λ k. AreCounts u.start.open.items k) (sym counts) h.search.fits.counts;
+      };
+      state = rw (derived, counts, pending) h.search.state;
+    };
+    wide = rw derived h.wide;
+    stays = rw derived h.stays;
+  }
 
   -- what follows from what is given has been derived
   pub derives_all : (given' : List ℕ) (first new : Closing) → IsUsesOf f u

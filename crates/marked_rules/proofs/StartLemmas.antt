@@ -7,6 +7,7 @@ use Rattle.std.proofs.lemmas.List.Elements.{Contains-get_or, Contains-append_cas
 use Rattle.lists.proofs.Images.{image_from, image_there}
 use Rattle.lists.proofs.Membership.{Contains-nil}
 use Rattle.dung_notions.specs.Search.{reaching}
+use Rattle.dung_notions.specs.attack_index.specs.Offsets.{AreBelow}
 use Rattle.dung_notions.specs.attack_index.specs.PairOrder.{PairsRise, reversed}
 use Rattle.semantics.specs.Rules.{Rule, Derives}
 use Rattle.semantics.specs.AbaFrameworks.{Aba, IsNumberedAba}
@@ -77,6 +78,29 @@ pairs_all f n pairs end are k y = (
   λ w. (are.each k y).1 (omega (arith, w.0, end), w),
 )
 
+-- ---- bounds of pairs
+
+pub low_contraries : (f : Aba) (bound : ℕ) (pairs : List (ℕ × ℕ)) → IsNumberedAba f → f.atoms < bound
+    → pairs ≡ f.contraries → AreBelow bound pairs
+low_contraries f bound pairs form high is p c =
+    let there : Contains f.contraries p = subst (λ l. Contains l p) is c in
+    let assumed : Contains f.assumptions p.0 = subst (λ l. Contains l p.0) form.form.one_contrary
+    (image_there (λ (q : ℕ × ℕ). q.0) f.contraries p there) in (
+      omega (arith, high, (form.form.assumptions_are p.0 assumed).high),
+      omega (arith, high, form.form.contraries_are p.0 p.1 there),
+    )
+
+pub low_pairs : (f : Aba) (bound : ℕ) (pairs : List (ℕ × ℕ)) → IsNumberedAba f → f.atoms < bound
+    → length f.rules ≤ bound
+    → ((k y : ℕ) → Contains pairs (k, y) ↔ ((k < length f.rules) × Contains (rule_at f.rules k).body y))
+    → AreBelow bound pairs
+low_pairs f bound pairs form high reach are p c =
+    let w = (are p.0 p.1).0 c in
+    let there = Contains-get_or f.rules p.0 no_rule w.0 in (
+      omega (arith, w.0, reach),
+      omega (arith, high, ((form.form.rules_are (rule_at f.rules p.0) there).body p.1 w.1).high),
+    )
+
 -- ---- nothing is derived yet
 
 pub tables : (f : Aba) (pairs bodies uses : List (ℕ × ℕ))
@@ -103,7 +127,7 @@ pub has_begun : (f : Aba) (u : RuleUses) (bound : ℕ) (pairs bodies : List (ℕ
     → u.start.base.items ≡ replicate (f.atoms + 1) false → length u.start.open.items ≡ bound
     → length f.rules ≤ bound → bound ≤ 1000001
     → ((k : ℕ) → get_or u.start.open.items k 0 ≡ count_by (λ p. eqb p.0 k) bodies) → IsBegun f u
-has_begun f u bound pairs bodies form contraries are same up back down base open reach low counted =
+has_begun f u bound pairs bodies form contraries are same up back down base size reach low counted =
     let tabled = tables f pairs bodies u.uses.pairs are same back in
     let long : length (heads_of f) ≡ length f.rules = length-map f.rules (λ (r : Rule). r.head) in
     let wide : length u.start.base.items ≡ f.atoms + 1 =
@@ -115,11 +139,11 @@ has_begun f u bound pairs bodies form contraries are same up back down base open
     omega (arith, tabled.heads_are k lt, (form.form.rules_are (rule_at f.rules k) there).head.high))
     (λ y k c. let w = (are k y).0 ((same (k, y)).0 ((back (k, y)).0 c)) in
     omega (arith, ((form.form.rules_are (rule_at f.rules k) (Contains-get_or f.rules k no_rule w.0)).body y w.1).high))
-    (omega (arith, long, open, reach))
+    (omega (arith, long, size, reach))
     (λ k. counted k ∙ counts_uses bodies u.uses.pairs up down back k) in
     record {
       of = record { form = form; contraries_are = contraries; wide = wide };
-      few = record { atoms = omega (arith, wide, form.atoms); rules = omega (arith, open, low) };
+      few = record { atoms = omega (arith, wide, form.atoms); rules = omega (arith, size, low) };
       none = none;
       state = gives_more f.rules (heads_of f) u.uses.pairs (IsMarked u.start.base.items) Nothing 0 u.start.base.items
           u.start.open.items [] (λ x m. absurd (none x m))
@@ -137,7 +161,7 @@ module _ (f : Aba) (u : RuleUses) where
       → GoesOnTo f u (length (heads_of f)) first between → GoesOnTo f u (length (heads_of f)) between last
       → last.pending.items ≡ [] → u'.uses ≡ u.uses → u'.contraries ≡ u.contraries
       → u'.start.base.items ≡ derived_in u last → u'.start.open.items ≡ open_in u last → IsUsesOf f u'
-  starts u' first between last begun at one two done uses contraries base open =
+  starts u' first between last begun at one two done uses contraries base counts =
       let sound : (x : ℕ) → IsMarked (derived_in u between) x → Derives f.rules Nothing x = λ x m.
       derives_from f.rules (IsMarked (derived_in u first)) Nothing
       (λ y k. absurd (begun.none y (subst (λ l. IsMarked l y) at.derived k))) x (one.search.state.sound x m) in
@@ -149,7 +173,7 @@ module _ (f : Aba) (u : RuleUses) where
           contraries_are = λ p. rw contraries (begun.of.contraries_are p);
           wide = ap length base ∙ two.wide ∙ one.wide ∙ ap length at.derived ∙ begun.of.wide;
         };
-        state = rw (uses, base, open) (rw done at state);
+        state = rw (uses, base, counts) (rw done at state);
       }
 
 -- ---- lists that are written out

@@ -1,24 +1,32 @@
 -- The tests of sets by what a search has found.
-use Rattle.std.proofs.Common.{◌≡◌, ℕ, ◌+◌, ◌<◌, ◌≤◌, Bool, List, [], ◌∷◌, ◌++◌, length, get_or, take, arith, refl, sym, subst, ◌∙◌, inl, inr, ⊎_elim}
+use Rattle.std.proofs.Common.{◌≡◌, ℕ, ◌+◌, ◌<◌, ◌≤◌, Bool, List, [], ◌∷◌, ◌++◌, length, get_or, take, arith, refl, sym, subst, ◌∙◌, filter, eqb, eq-eqb, inl, inr, ⊎_elim}
 use Rattle.std.specs.Prelude.{◌↔◌, Contains, IsTrue}
+use Rattle.std.proofs.lemmas.Bool.{eqb-true}
 use Rattle.std.proofs.lemmas.List.{take_more, take_all}
 use Rattle.std.proofs.lemmas.List.Elements.{Contains-push_cases, Contains-append_left, Contains-append_right}
 use Rattle.lists.specs.Members.{IsWithin}
+use Rattle.lists.proofs.Filters.{Contains-filter}
 use Rattle.lists.proofs.Membership.{Contains-nil, Contains-head}
-use Rattle.semantics.specs.Rules.{Rule, Derives}
-use Rattle.semantics.specs.AbaFrameworks.{Aba, AttacksAssumption, IsInTheory, collective_of}
+use Rattle.lists.proofs.Walks.{WalkedAll, all_members}
+use Rattle.semantics.specs.Rules.{Rule, Derives, given, by_rule}
+use Rattle.semantics.specs.AbaFrameworks.{Aba, AttacksAssumption, IsInTheory, IsNumberedAba, collective_of}
 use Rattle.semantics.specs.Collectives.{IsUnattacked, IsConflictFree, IsAdmissible, IsComplete, IsStable}
 use Rattle.aba_laws.specs.semantics.proofs.Decided.{decide_member}
 use Rattle.aba_laws.proofs.AbaLemmas.{aba_lawful}
 use Rattle.aba_laws.proofs.CollectiveSets.{IsLawful, defends_by_rest}
 use Rattle.aba_notions.specs.Closing.{IsMarked}
-use Rattle.aba_notions.proofs.AttackLemmas.{derived_low}
 use Rattle.marked_rules.specs.declared.closing.Closing.{Closing}
 use Rattle.marked_rules.specs.declared.rule_uses.RuleUses.{RuleUses}
 use Rattle.marked_rules.specs.Cone.{IsCone}
 use Rattle.marked_rules.specs.Search.{AreOf, HasDerived, IsUsesOf, derived_in}
 use Rattle.marked_rules.specs.Tests.{IsQuiet, IsSpared, Keeps}
 use Rattle.marked_rules.proofs.ConeLemmas.{admissible_by_cone}
+
+-- what follows and is no member is an atom
+follows_low : (f : Aba) (s : List ℕ) (x : ℕ) → IsNumberedAba f → (Contains s x → ⊥)
+    → Derives f.rules (Contains s) x → x ≤ f.atoms
+follows_low f s x form out (given _ c) = absurd (out c)
+follows_low f s x form out (by_rule r _ there is body) = rw (← is) (form.form.rules_are r there).head.high
 
 module _ (f : Aba) (u : RuleUses) (of : AreOf f u) where
   -- no contrary is derived where the set doesn't attack
@@ -104,8 +112,20 @@ module _ (f : Aba) (u : RuleUses) (of : AreOf f u) where
       → (IsTrue r ↔ IsMarked (derived_in u c) x) → IsTrue r ↔ IsInTheory f s x
   derives_by s c x r out has test = (
     λ e. ((has.exact x).0 (test.0 e)).1,
-    λ d. test.1 ((has.exact x).1 (⊎_elim (λ low. low) (λ here. absurd (out here)) (derived_low f s of.form x d), d)),
+    λ d. test.1 ((has.exact x).1 (follows_low f s x of.form out d, d)),
   )
+
+-- the walk along an assumption's contraries
+pub quiet_walk : (u : RuleUses) (c : Closing) (a : ℕ) (pairs : List (ℕ × ℕ)) (r : Bool)
+    → pairs ≡ filter (λ p. eqb p.0 a) u.contraries.pairs
+    → WalkedAll (λ (p : ℕ × ℕ). IsMarked (derived_in u c) p.1 → ⊥) pairs r → IsTrue r ↔ IsQuiet u c a
+quiet_walk u c a pairs r cut walk =
+    let each = all_members (λ (p : ℕ × ℕ). IsMarked (derived_in u c) p.1 → ⊥) pairs r walk in
+    let kept = λ (p : ℕ × ℕ). Contains-filter (λ (q : ℕ × ℕ). eqb q.0 a) u.contraries.pairs p in (
+      λ e x there. each.0 e (a, x) (subst (λ l. Contains l (a, x)) (sym cut) ((kept (a, x)).1 (there, eq-eqb a a refl))),
+      λ quiet. each.1 (λ p m. let k = (kept p).0 (subst (λ l. Contains l p) cut m) in
+      quiet p.1 (subst (λ b. Contains u.contraries.pairs (b, p.1)) (eqb-true p.0 a k.1) k.0)),
+    )
 
 -- ---- what is kept
 

@@ -64,7 +64,7 @@ impl RuleUses {
         requires fits { Fits self.now.start closing.now }
         requires few { HasFew self.now.start }
         ensures base { IfOk result (λ start. start.base.items ≡ derived_in self.now closing.now) }
-        ensures open { IfOk result (λ start. start.open.items ≡ open_in self.now closing.now) }
+        ensures counts { IfOk result (λ start. start.open.items ≡ open_in self.now closing.now) }
     {
         let base = self.base_of(alloc, closing)?;
         let open = self.open_counts(alloc, closing)?;
@@ -87,14 +87,14 @@ impl RuleUses {
     fn open_counts(&self, alloc: Global, closing: &Closing) -> Result<Vec<usize>, Memory>
         requires fits { Fits self.now.start closing.now }
         requires few { HasFew self.now.start }
-        ensures { IfOk result (λ open. open.items ≡ open_in self.now closing.now) }
+        ensures { IfOk result (λ found. found.items ≡ open_in self.now closing.now) }
     {
         let firsts = self.start.open.as_slice();
-        let mut open = Vec::new(alloc);
+        let mut found = Vec::new(alloc);
         for rule in 0..firsts.len() {
-            open.push(closing.open.get(firsts, rule as u32))?;
+            found.push(closing.open.get(firsts, rule as u32))?;
         }
-        Ok(open)
+        Ok(found)
     }
 }
 
