@@ -216,10 +216,14 @@ first_next f u s n pairs old new of cut before reaches = record {
   long = omega (arith, before.long, reaches.long);
   listed = reaches.listed;
   each = λ j lt x c. ⊎_elim
-      (λ (e : j ≡ n). reaches.gains x (get_or s n 0, subst (λ l. Contains l (get_or s n 0, x)) (sym cut)
-      ((Contains-filter (λ (q : ℕ × ℕ). eqb q.0 (get_or s n 0)) u.contraries.pairs (get_or s n 0, x)).1
-      ((of.contraries_are (get_or s n 0, x)).1 (subst (λ k. Contains f.contraries (get_or s k 0, x)) e c),
-      eq-eqb (get_or s n 0) (get_or s n 0) refl))))
+      (λ (e : j ≡ n). reaches.gains x (
+        get_or s n 0,
+        subst (λ l. Contains l (get_or s n 0, x)) (sym cut)
+            ((Contains-filter (λ (q : ℕ × ℕ). eqb q.0 (get_or s n 0)) u.contraries.pairs (get_or s n 0, x)).1 (
+              (of.contraries_are (get_or s n 0, x)).1 (subst (λ k. Contains f.contraries (get_or s k 0, x)) e c),
+              eq-eqb (get_or s n 0) (get_or s n 0) refl,
+            )),
+      ))
       (λ ne. stays_reached (StandsSecond pairs) old new reaches x (before.each j (omega (arith, lt, ne)) x c))
       (cases_eq j n);
 }

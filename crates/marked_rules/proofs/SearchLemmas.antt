@@ -208,8 +208,12 @@ module _ (f : Aba) (u : RuleUses) where
   pub rule_counted : (Given : ℕ → Type 0) (due : ℕ) (c : Closing) (k : ℕ) → k < length (heads_of f)
       → IsSearch f u Given due c → k < length u.start.open.items
   rule_counted Given due c k lt h =
-      omega (arith, lt, h.state.long,
-      length_overlaid 0 u.start.open.items c.open.changed (λ j. get_or c.open.left.items j 0))
+      omega (
+        arith,
+        lt,
+        h.state.long,
+        length_overlaid 0 u.start.open.items c.open.changed (λ j. get_or c.open.left.items j 0),
+      )
 
   -- a rule more has fired
   pub fires_next : (k : ℕ) (first old new : Closing) → k < length (heads_of f) → GoesOnTo f u k first old

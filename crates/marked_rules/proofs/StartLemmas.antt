@@ -1,5 +1,5 @@
 -- The state that all searches begin with.
-use Rattle.std.proofs.Common.{◌≡◌, ℕ, ◌+◌, ◌<◌, ◌≤◌, Bool, true, false, cond, List, [], ◌∷◌, ◌++◌, length, get_or, map, take, replicate, arith, refl, sym, subst, ap, ◌∙◌, ⊎_elim, eqb}
+use Rattle.std.proofs.Common.{◌≡◌, ℕ, ◌+◌, ◌<◌, ◌≤◌, ◌^◌, Bool, true, false, cond, List, [], ◌∷◌, ◌++◌, length, get_or, map, take, replicate, arith, refl, sym, subst, ap, ◌∙◌, ⊎_elim, eqb}
 use Rattle.std.specs.Prelude.{◌↔◌, Contains, IsTrue, count_by}
 use Rattle.std.proofs.lemmas.Bool.{cases_Bool, cases_eq, false≢true}
 use Rattle.std.proofs.lemmas.List.{length-map, length-replicate, get_or-map, take_more, take_all}
@@ -9,6 +9,7 @@ use Rattle.lists.proofs.Membership.{Contains-nil}
 use Rattle.dung_notions.specs.Search.{reaching}
 use Rattle.dung_notions.specs.attack_index.specs.Offsets.{AreBelow}
 use Rattle.dung_notions.specs.attack_index.specs.PairOrder.{PairsRise, reversed}
+use Rattle.semantics.specs.declared.numbers.TheConstants.{MAX_RULE}
 use Rattle.semantics.specs.Rules.{Rule, Derives}
 use Rattle.semantics.specs.AbaFrameworks.{Aba, IsNumberedAba}
 use Rattle.aba_laws.proofs.DerivationLemmas.{derives_from}
@@ -24,7 +25,7 @@ use Rattle.marked_rules.proofs.SearchLemmas.{gives_more, begins_at, starts_afres
 -- ---- bounds
 
 -- there are no more rules than numbers for them
-pub few_rules : (f : Aba) → IsNumberedAba f → length f.rules ≤ 1000000
+pub few_rules : (f : Aba) → IsNumberedAba f → length f.rules ≤ MAX_RULE
 few_rules f ok =
     let bounded : (n : ℕ) → Contains (map (λ (r : Rule). r.number) f.rules) n → (1 ≤ n) × (n < f.next) = λ n c.
     (let from = image_from (λ (r : Rule). r.number) f.rules n c in
@@ -52,7 +53,7 @@ pub pairs_more : (f : Aba) (n : ℕ) (body old new : List (ℕ × ℕ)) → n < 
     → ((p : ℕ × ℕ) → Contains body p → p.0 ≡ n) → new ≡ old ++ body → ArePairs f n old → ArePairs f (n + 1) new
 pairs_more f n body old new lt is at made before = record {
   each = λ k y. (
-    λ c. ⊎_elim (λ was. let w = (before.each k y).0 was in (omega (arith, w.0), w.1))
+    λ c. ⊎_elim (λ was. let w = (before.each k y).0 was in (omega (arith, w.0), w.1, w.2))
         (λ here. let e : k ≡ n = at (k, y) here in (
           omega (arith, e),
           omega (arith, e, lt),
@@ -66,7 +67,7 @@ pairs_more f n body old new lt is at made before = record {
         let from = image_from (λ (p : ℕ × ℕ). p.1) body y there in
         Contains-append_right old body (k, y) (subst (λ z. Contains body (k, z)) from.2
         (subst (λ j. Contains body (j, from.0.1)) (at from.0 from.1 ∙ sym e) from.1)))
-        (λ ne. Contains-append_left old body (k, y) ((before.each k y).1 (omega (arith, w.0, ne), w.1)))
+        (λ ne. Contains-append_left old body (k, y) ((before.each k y).1 (omega (arith, w.0, ne), w.1, w.2)))
         (cases_eq k n)),
   );
 }
@@ -74,8 +75,8 @@ pairs_more f n body old new lt is at made before = record {
 pub pairs_all : (f : Aba) (n : ℕ) (pairs : List (ℕ × ℕ)) → length f.rules ≤ n → ArePairs f n pairs → (k y : ℕ)
     → Contains pairs (k, y) ↔ ((k < length f.rules) × Contains (rule_at f.rules k).body y)
 pairs_all f n pairs end are k y = (
-  λ c. ((are.each k y).0 c).1,
-  λ w. (are.each k y).1 (omega (arith, w.0, end), w),
+  λ c. let w = (are.each k y).0 c in (w.1, w.2),
+  λ w. (are.each k y).1 (omega (arith, w.0, end), w.0, w.1),
 )
 
 -- ---- bounds of pairs
@@ -125,7 +126,7 @@ pub has_begun : (f : Aba) (u : RuleUses) (bound : ℕ) (pairs bodies : List (ℕ
     → ((p : ℕ × ℕ) → Contains bodies p ↔ Contains pairs p) → PairsRise bodies
     → ((p : ℕ × ℕ) → Contains u.uses.pairs (reversed p) ↔ Contains bodies p) → PairsRise u.uses.pairs
     → u.start.base.items ≡ replicate (f.atoms + 1) false → length u.start.open.items ≡ bound
-    → length f.rules ≤ bound → bound ≤ 1000001
+    → length f.rules ≤ bound → bound ≤ 2 ^ 32
     → ((k : ℕ) → get_or u.start.open.items k 0 ≡ count_by (λ p. eqb p.0 k) bodies) → IsBegun f u
 has_begun f u bound pairs bodies form contraries are same up back down base size reach low counted =
     let tabled = tables f pairs bodies u.uses.pairs are same back in

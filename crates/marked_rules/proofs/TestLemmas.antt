@@ -66,8 +66,7 @@ module _ (f : Aba) (u : RuleUses) (of : AreOf f u) where
       (λ x. (
         λ k. let w = (keeps x).0 k in (w.0, (spared_is s before has x).0 w.1),
         λ w. (keeps x).1 (w.0, (spared_is s before has x).1 w.1),
-      ))
-      (
+      )) (
         λ e a m. (quiet_is kept after then a).0 (test.0 e a m),
         λ none. test.1 (λ a m. (quiet_is kept after then a).1 (none a m)),
       )
@@ -124,7 +123,7 @@ quiet_walk u c a pairs r cut walk =
     let kept = λ (p : ℕ × ℕ). Contains-filter (λ (q : ℕ × ℕ). eqb q.0 a) u.contraries.pairs p in (
       λ e x there. each.0 e (a, x) (subst (λ l. Contains l (a, x)) (sym cut) ((kept (a, x)).1 (there, eq-eqb a a refl))),
       λ quiet. each.1 (λ p m. let k = (kept p).0 (subst (λ l. Contains l p) cut m) in
-      quiet p.1 (subst (λ b. Contains u.contraries.pairs (b, p.1)) (eqb-true p.0 a k.1) k.0)),
+          quiet p.1 (subst (λ b. Contains u.contraries.pairs (b, p.1)) (eqb-true p.0 a k.1) k.0)),
     )
 
 -- ---- what is kept

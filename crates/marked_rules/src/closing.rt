@@ -71,9 +71,7 @@ impl RuleUses {
     pub(crate) fn restart(&self, alloc: Global, closing: &mut Closing) -> Result<(), Memory>
         ensures { OnOk result (IsAtStart self.now closing.new) }
     {
-        closing
-            .derived
-            .clear(alloc, self.start.base.len())?;
+        closing.derived.clear(alloc, self.start.base.len())?;
         closing.open.restart(alloc, self.start.open.as_slice())?;
         closing.pending.clear();
         Ok(())

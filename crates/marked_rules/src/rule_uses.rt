@@ -59,6 +59,22 @@ impl RuleUses {
         Ok(uses)
     }
 
+    /// Nothing to look up: for a framework without rules.
+    pub fn none(alloc: Global) -> Result<RuleUses, Memory> {
+        let mut spare = Vec::new(alloc);
+        let uses = AttackIndex::new(alloc, Vec::new(alloc), &mut spare, 0)?;
+        let contraries = AttackIndex::new(alloc, Vec::new(alloc), &mut spare, 0)?;
+        let start = Start {
+            base: Vec::new(alloc),
+            open: Vec::new(alloc),
+        };
+        Ok(RuleUses {
+            uses,
+            contraries,
+            start,
+        })
+    }
+
     /// What a search has come to, for others to begin with.
     fn start_of(&self, alloc: Global, closing: &Closing) -> Result<Start, Memory>
         requires fits { Fits self.now.start closing.now }

@@ -7,8 +7,11 @@ loop-member-init c = first_none c.args.plain.now c.args.set.now _ (rw c.atoms.en
 
 pub reach_all-requires-clause-within : goal.reach_all-requires-clause-within
 reach_all-requires-clause-within c = λ p m.
-    omega (arith, contrary_low c.args.plain.now c.args.uses.now _ c.of.result.now c.requires c.of.ensures.value p m,
-    c.loop-member.invariant.long)
+    omega (
+      arith,
+      contrary_low c.args.plain.now c.args.uses.now _ c.of.result.now c.requires c.of.ensures.value p m,
+      c.loop-member.invariant.long,
+    )
 
 pub reach_all-requires-clause-listed : goal.reach_all-requires-clause-listed
 reach_all-requires-clause-listed c = c.loop-member.invariant.listed

@@ -11,8 +11,11 @@ loop-pair-init c = reaches_not (IsSecond c.args.pairs.now 0) c.args.self.now c.r
 
 pub reach-requires-clause-within : goal.reach-requires-clause-within
 reach-requires-clause-within c =
-    omega (arith, c.loop-pair.invariant.long,
-    c.requires.within _ (Contains-get_or c.args.pairs.now c.loop-pair.pair-index (0, 0) c.loop-pair-test.true))
+    omega (
+      arith,
+      c.loop-pair.invariant.long,
+      c.requires.within _ (Contains-get_or c.args.pairs.now c.loop-pair.pair-index (0, 0) c.loop-pair-test.true),
+    )
 
 pub reach-requires-clause-listed : goal.reach-requires-clause-listed
 reach-requires-clause-listed c = c.loop-pair.invariant.listed

@@ -16,8 +16,12 @@ pub reach_all-requires-clause-within : goal.reach_all-requires-clause-within
 reach_all-requires-clause-within c = λ p m.
     let lt = ((c.headed_by-rules.ensures.rules _ _).0
     (Contains-get_or c.headed_by-rules.result.now c.loop-rule.rule-index (0, 0) c.loop-rule-test.true)).1 in
-    omega (arith, body_low c.args.plain.now c.body_of.result.now _ c.requires.form lt c.body_of.ensures.value p m,
-    c.requires.long, c.loop-rule.invariant.long)
+    omega (
+      arith,
+      body_low c.args.plain.now c.body_of.result.now _ c.requires.form lt c.body_of.ensures.value p m,
+      c.requires.long,
+      c.loop-rule.invariant.long,
+    )
 
 pub reach_all-requires-clause-listed : goal.reach_all-requires-clause-listed
 reach_all-requires-clause-listed c = c.loop-rule.invariant.listed

@@ -8,8 +8,12 @@ use Rattle.marked_rules.proofs.rule_uses.RuleUses.enter.Goals as goal
 pub mark-requires : goal.mark-requires
 mark-requires c =
     let o = c.lacks-open.ensures.0 c.if-not-open.false in
-    omega (arith, o.within, c.requires.wide,
-    length_overlaid true c.args.self.now.start.base.items c.args.closing.now.derived (λ j. true))
+    omega (
+      arith,
+      o.within,
+      c.requires.wide,
+      length_overlaid true c.args.self.now.start.base.items c.args.closing.now.derived (λ j. true),
+    )
 
 pub returns : goal.returns
 returns c =

@@ -17,5 +17,5 @@ settle_all-requires c = starts_afresh c.args.plain.now c.in_ok-uses.uses
 pub returns : goal.returns
 returns c = starts c.args.plain.now c.in_ok-uses.uses _ c.restart.new.closing c.fire_all.new.closing
     c.settle_all.new.closing c.in_ok-uses.ensures c.in_ok-restart.ensures c.in_ok-fire_all.ensures
-    c.in_ok-settle_all.ensures.on c.in_ok-settle_all.ensures.done refl refl c.in_ok-uses-start.ensures.base
-    c.in_ok-uses-start.ensures.counts
+    c.in_ok-settle_all.ensures.on c.in_ok-settle_all.ensures.done refl refl c.in_ok-uses-2.ensures.base
+    c.in_ok-uses-2.ensures.counts
