@@ -1,7 +1,7 @@
 #!/usr/bin/env python3
 """Measures what a certificate costs: each task plain, with -c, and its check, on frameworks of three kinds.
 
-It writes frameworks (the same on each run), has the built program answer each of the 22 tasks on them, plainly and with
+It writes frameworks (the same on each run), has the built program answer each of the 26 tasks on them, plainly and with
 -c, and check what it wrote, and prints the seconds of each, the certificate's bytes, and the ratios. A check that
 doesn't print ACCEPTED ends the run. A query that ends without an answer is told with its status.
 
@@ -18,9 +18,9 @@ import time
 from pathlib import Path
 
 TOP = Path(__file__).resolve().parent.parent
-SEMANTICS = ["CO", "GR", "PR", "ST", "SST", "ID"]
+SEMANTICS = ["CO", "GR", "PR", "ST", "SST", "ID", "STG"]
 TASKS = [f"{problem}-{one}" for problem in ("DC", "DS", "SE") for one in SEMANTICS]
-TASKS += [f"EE-{one}" for one in ("CO", "PR", "ST", "SST")]
+TASKS += [f"EE-{one}" for one in ("CO", "PR", "ST", "SST", "STG")]
 # As ./argue sets them.
 SETTINGS = {"GLIBC_TUNABLES": "glibc.malloc.hugetlb=1:glibc.malloc.top_pad=67108864", "LD_BIND_NOW": "1", **os.environ}
 

@@ -87,7 +87,7 @@ def in_range(number, low, high):
 class Af:
     """An abstract framework."""
 
-    tasks = {"CO", "GR", "PR", "ST", "SST", "ID"}
+    tasks = {"CO", "GR", "PR", "ST", "SST", "ID", "STG"}
 
     def __init__(self, live, attacks):
         self.live, self.attacks = frozenset(live), frozenset(attacks)
@@ -225,22 +225,24 @@ def extensions(framework, cache={}):
     members = sorted(framework.members())
     if len(members) > FEW:
         raise SystemExit(f"{len(members)} arguments or assumptions are too many")
-    admissible, complete, stable, ranges = [], [], [], {}
+    admissible, complete, stable, ranges = [], [], [], {}  # ranges of all sets without conflict
     for size in range(len(members) + 1):
         for chosen in map(frozenset, itertools.combinations(members, size)):
             beaten = framework.attacked(chosen)
             if beaten & chosen:
                 continue
+            ranges[chosen] = chosen | beaten
             if set(members) - beaten <= chosen:
                 stable.append(chosen)
             defended = {member for member in members if framework.defends(chosen, beaten, member)}
             if chosen <= defended:
                 admissible.append(chosen)
-                ranges[chosen] = chosen | beaten
                 if defended <= chosen:
                     complete.append(chosen)
     preferred = [chosen for chosen in admissible if not is_within(chosen, admissible)]
-    semi_stable = [chosen for chosen in admissible if not is_within(ranges[chosen], ranges.values())]
+    covered = [ranges[chosen] for chosen in admissible]
+    semi_stable = [chosen for chosen in admissible if not is_within(ranges[chosen], covered)]
+    stage = [chosen for chosen, reach in ranges.items() if not is_within(reach, ranges.values())]
     shared = [chosen for chosen in admissible if all(chosen <= other for other in preferred)]
     found = {
         "AD": admissible,
@@ -250,6 +252,7 @@ def extensions(framework, cache={}):
         "ST": stable,
         "SST": semi_stable,
         "ID": [max(shared, key=len)],
+        "STG": stage,
     }
     cache[framework] = found
     return found

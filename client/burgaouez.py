@@ -52,8 +52,8 @@ LARGEST_FIELD = 4_294_967_295
 MOST_ATTACK_LINES = 10_000_000
 MOST_RULE_LINES = 1_000_000
 TASKS = tuple(
-    "DC-CO DC-GR DC-PR DC-ST DC-SST DC-ID DS-CO DS-GR DS-PR DS-ST DS-SST DS-ID "
-    "SE-CO SE-GR SE-PR SE-ST SE-SST SE-ID EE-CO EE-PR EE-ST EE-SST".split()
+    "DC-CO DC-GR DC-PR DC-ST DC-SST DC-ID DC-STG DS-CO DS-GR DS-PR DS-ST DS-SST DS-ID DS-STG "
+    "SE-CO SE-GR SE-PR SE-ST SE-SST SE-ID SE-STG EE-CO EE-PR EE-ST EE-SST EE-STG".split()
 )
 NAME = r"[^\W\d_][\w-]*"
 COMMENT = re.compile(rf"[ \t\r]*#\s*0*([1-9][0-9]*)(?:[ \t]+({NAME}))?[ \t]*:(.*)", re.DOTALL)
@@ -337,14 +337,14 @@ class Framework:
 
     @property
     def tasks(self) -> tuple[str, ...]:
-        """The tasks that are answered for this kind: all, or all without SST and ID.
+        """The tasks that are answered for this kind: all, or all without SST, ID and STG.
 
         >>> len(Framework.of_attacks([]).tasks), len(Framework.of_rules([], {}, []).tasks)
-        (22, 15)
+        (26, 15)
         """
         if self.kind is Kind.ATTACKS:
             return TASKS
-        return tuple(task for task in TASKS if not task.endswith(("-SST", "-ID")))
+        return tuple(task for task in TASKS if not task.endswith(("-SST", "-ID", "-STG")))
 
     def sentence(self, number: int) -> str:
         """What a number says; the number itself where no sentence was given."""

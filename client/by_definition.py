@@ -77,9 +77,18 @@ class Definitions:
     def stable(self) -> list[Members]:
         return [one for one in self.all if self.beaten[one] == self.everything - one]
 
-    def semi_stable(self) -> list[Members]:
-        ranges = {one: one | self.beaten[one] for one in self.admissible()}
+    def conflict_free(self) -> list[Members]:
+        return [one for one in self.all if not one & self.beaten[one]]
+
+    def _widest(self, sets: list[Members]) -> list[Members]:
+        ranges = {one: one | self.beaten[one] for one in sets}
         return [one for one, reach in ranges.items() if not any(reach < other for other in ranges.values())]
+
+    def semi_stable(self) -> list[Members]:
+        return self._widest(self.admissible())
+
+    def stage(self) -> list[Members]:
+        return self._widest(self.conflict_free())
 
     def ideal(self) -> list[Members]:
         preferred = self.preferred()
@@ -87,7 +96,7 @@ class Definitions:
         return [one for one in candidates if all(other <= one for other in candidates)]
 
     def extensions(self, semantics: str) -> list[Members]:
-        """The extensions by a semantics, named as in a task: CO, GR, PR, ST, SST, ID."""
+        """The extensions by a semantics, named as in a task: CO, GR, PR, ST, SST, ID, STG."""
         table: dict[str, Callable[[], list[Members]]] = {
             "CO": self.complete,
             "GR": self.grounded,
@@ -95,6 +104,7 @@ class Definitions:
             "ST": self.stable,
             "SST": self.semi_stable,
             "ID": self.ideal,
+            "STG": self.stage,
         }
         return table[semantics]()
 

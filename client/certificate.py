@@ -110,6 +110,10 @@ def no(*atom) -> Literal:
     return Literal(False, atom)
 
 
+# The mode of the sets whose widest ranges are the extensions.
+WIDEST = {"SST": yes("Ad"), "STG": yes("Cf")}
+
+
 def literal_of(text: str) -> Literal:
     """Reads a literal; raises ValueError for a text that is none."""
     name, *numbers = text.removeprefix("-").split(":")
@@ -311,8 +315,8 @@ def claims_of(view: View, task: str, query: Optional[int], answer, sets: Sequenc
         return [Claim((yes("St"),))]
     goal = yes("Der", OWN, query) if view.is_rules else yes("Member", query)
     bad = goal if problem == "DC" else -goal
-    if semantics == "SST":
-        return _range_claims(view, (bad,), sets, _ranges(view, sets))
+    if semantics in WIDEST:
+        return _range_claims(view, (WIDEST[semantics], bad), sets, _ranges(view, sets))
     mode = yes("St") if semantics == "ST" else yes("Ad")
     return [Claim((mode, bad), tuple(outside(view, one, n) for n, one in enumerate(sets, 1)))]
 
@@ -326,10 +330,10 @@ def _shows_one_set(problem: str, answer) -> bool:
 def _evidence_claims(view: View, semantics: str, chosen: Numbers) -> list[Claim]:
     if semantics == "PR":
         return [Claim((yes("Ad"), *(yes("Member", e) for e in chosen)), (outside(view, chosen, 1),), "largest")]
-    if semantics == "SST":
+    if semantics in WIDEST:
         spread = view.range_of(chosen)
         ranges = tuple(yes("Range", r) for r in sorted(spread))
-        return [Claim((yes("Ad"), *ranges), (wider(view, spread, (1,)),), "widest")]
+        return [Claim((WIDEST[semantics], *ranges), (wider(view, spread, (1,)),), "widest")]
     return []
 
 
@@ -345,8 +349,8 @@ def _ideal_claims(view: View, sets: Sequence[Numbers]) -> list[Claim]:
 
 
 def _all_claims(view: View, semantics: str, sets: Sequence[Numbers]) -> list[Claim]:
-    if semantics == "SST":
-        return _range_claims(view, (), sets, _ranges(view, sets), listed=True)
+    if semantics in WIDEST:
+        return _range_claims(view, (WIDEST[semantics],), sets, _ranges(view, sets), listed=True)
     mode = {"CO": "Co", "ST": "St", "PR": "Ad"}[semantics]
     made = outside if semantics == "PR" else differs
     return [Claim((yes(mode),), tuple(made(view, one, n) for n, one in enumerate(sets, 1)))]
@@ -356,7 +360,7 @@ def _ranges(view: View, sets: Sequence[Numbers]) -> list[set[int]]:
     return [view.range_of(one) for one in sets]
 
 
-def _range_claims(view: View, bad: tuple, sets, spreads, listed: bool = False) -> list[Claim]:
+def _range_claims(view: View, goals: tuple, sets, spreads, listed: bool = False) -> list[Claim]:
     """Without `listed` each set has a range of its own; with it each distinct range has one."""
     kinds: list[tuple[set[int], list[int]]] = []
     for number, spread in enumerate(spreads, 1):
@@ -365,7 +369,6 @@ def _range_claims(view: View, bad: tuple, sets, spreads, listed: bool = False) -
             kinds.append((spread, [number]))
         else:
             same[1].append(number)
-    goals = (yes("Ad"), *bad)
     claims = [Claim(goals, tuple(wider(view, spread, tuple(of)) for spread, of in kinds), "wider")]
     for spread, of in kinds:
         ranges = tuple(yes("Range", r) for r in sorted(spread))

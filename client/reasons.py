@@ -44,6 +44,11 @@ SEMANTICS = {
     "ST": ("stable", "A stable set is a position without conflict that attacks all outside of it. There may be none."),
     "SST": ("semi-stable", "A semi-stable set defends itself and leaves as little as can be without a verdict."),
     "ID": ("ideal", "The ideal set is the largest position that defends itself and lies within every preferred set."),
+    "STG": (
+        "stage",
+        "A stage set is a position without conflict that leaves as little as can be without a verdict; it needn't defend "
+        "itself.",
+    ),
 }
 CHECKED = (
     "Checked by `argue check`: the answer follows from the framework as it is written. That says nothing of whether "
@@ -269,7 +274,7 @@ class _Telling:
             case "DC", Yes():
                 return f"Yes: here is one that {verb} {name(self.query)}."
             case "DC", No():
-                position = f"{adjective} set" if self.semantics in ("ST", "SST") else "position that defends itself"
+                position = f"{adjective} set" if self.semantics in ("ST", "SST", "STG") else "position that defends itself"
                 return f"No: no {position} {verb} {name(self.query)}."
             case "DS", Yes() if self.semantics == "ST" and self._has_no_stable_set():
                 return f"Yes, for want of any: there is no stable set, so none is without {name(self.query)}."
@@ -326,6 +331,8 @@ class _Telling:
             fact = Standing("itself", (self.query,), (self.query,), (_attack(self.query, self.query),), ())
             self._tell("A short reason", "Nothing that attacks itself is ever held.", [fact])
             return ()
+        if self.semantics == "STG":
+            return None
         grounded = self._grounded()
         positive = self.query in self.view.closure(grounded)
         fallen = self.query in self.view.attacked(grounded)

@@ -16,6 +16,7 @@ MOST_MEMBERS = 150
 STANDINGS = {
     "unattacked": "{a} stands: nothing attacks it",
     "answered": "{a} stands: {answers}",
+    "held": "{a} is held though {unanswered}, which nothing in the set answers",
     "falls": "{list} {falls} to {c}",
     "itself": "{a} attacks itself",
     "open": "open {stays} {pairs}: nothing in the set answers that",
@@ -92,6 +93,10 @@ def _of_attacks(view: View, members: Numbers, told: set[int], opens: bool) -> li
 
 def _stands(view: View, a: int, order: Sequence[int], members: Numbers) -> Standing:
     attackers = tuple(view.attackers[a])
+    answered = {target for one in members for target in view.targets[one]}
+    left = tuple(b for b in attackers if b not in answered)
+    if left:
+        return Standing("held", (a,), left, tuple(Fact("attacks", (b, a)) for b in left), members)
     answers = [(next(c for c in order if b in view.targets[c]), b) for b in attackers]
     facts = (Fact("attackers", (a, attackers)), *(Fact("attacks", pair) for pair in answers))
     by = tuple(dict.fromkeys(c for c, _ in answers))
@@ -290,6 +295,7 @@ REPEATED = {
     "{list} follow{s}": ("known", "derived"),
     "{list} {are} shut out": ("lacking", "circle"),
     "{list} stand{s}": ("unattacked", "answered", "unopposed", "underivable", "shut"),
+    "{list} {are} held": ("held",),
     "{list} fall{s}": ("falls", "attacked"),
     "{list} stay{s} open": ("open", "possible"),
 }
@@ -311,6 +317,8 @@ def _fields(view: View, one: Standing, shut: Optional[_Shut]) -> dict[str, str]:
                                   for a, b in zip(one.about, one.by)])
     if one.kind == "answered":
         fields["answers"] = _answers(one)
+    if one.kind == "held":
+        fields["unanswered"] = f"{names_of(one.by)} {'attacks' if len(one.by) == 1 else 'attack'} it"
     if one.kind == "derived":
         fields["body"] = names_of(one.by)
     if one.kind == "attacked":

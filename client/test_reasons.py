@@ -298,6 +298,8 @@ def stands_so(plain, one):
         return set(one.about) <= members and all(plain.attackers(a) == answered for a in one.about)
     if one.kind == "falls":
         return set(one.by) <= members and all((one.by[0], x) in plain.attacks for x in one.about)
+    if one.kind == "held":
+        return one.about[0] in members and set(one.by) == plain.attackers(one.about[0]) - attacked != set()
     if one.kind == "open":
         pairs = set(zip(one.by, one.about))
         return pairs <= plain.attacks and not attacked & {n for pair in pairs for n in pair}
@@ -571,7 +573,7 @@ def claimed(told):
     """The goals of each refutation that an answer needs."""
     found, plain = told.found, told.plain
     problem, semantics = found.task.split("-")
-    mode = literals({"ST": "St", "CO": "Co"}.get(semantics, "Ad"))
+    mode = literals({"ST": "St", "CO": "Co", "STG": "Cf"}.get(semantics, "Ad"))
     if semantics == "ID":
         ideal, others = found.sets[0], found.sets[1:]
         shunned = {a for one in others for a in plain.attacked(one)}
@@ -582,13 +584,13 @@ def claimed(told):
     held = lambda one: literals(*(f"Range:{r}" for r in plain.spread(one)))
     if shows:
         one = found.sets[0]
-        return [mode | (held(one) if semantics == "SST" else literals(*(f"Member:{e}" for e in one)))]
+        return [mode | (held(one) if semantics in ("SST", "STG") else literals(*(f"Member:{e}" for e in one)))]
     bad = set()
     if problem in ("DC", "DS"):
         mode = literals("Ad") if semantics == "CO" else mode
         goal = literal_of(f"Der:1:{found.query}" if plain.is_rules else f"Member:{found.query}")
         bad = {goal if problem == "DC" else -goal}
-    spreads = [plain.spread(one) for one in found.sets] if semantics == "SST" else []
+    spreads = [plain.spread(one) for one in found.sets] if semantics in ("SST", "STG") else []
     distinct = [one for n, one in enumerate(spreads) if problem != "EE" or one not in spreads[:n]]
     return [mode | bad] + [mode | bad | literals(*(f"Range:{r}" for r in one)) for one in distinct]
 

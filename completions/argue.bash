@@ -1,8 +1,8 @@
 # Completion of argue for bash: to be read by a shell (source), or put where bash-completion looks.
 _argue() {
     local word=${COMP_WORDS[COMP_CWORD]} before=${COMP_WORDS[COMP_CWORD - 1]} options
-    local tasks="DC-CO DC-GR DC-PR DC-ST DC-SST DC-ID DS-CO DS-GR DS-PR DS-ST DS-SST DS-ID
-        SE-CO SE-GR SE-PR SE-ST SE-SST SE-ID EE-CO EE-PR EE-ST EE-SST"
+    local tasks="DC-CO DC-GR DC-PR DC-ST DC-SST DC-ID DC-STG DS-CO DS-GR DS-PR DS-ST DS-SST DS-ID DS-STG
+        SE-CO SE-GR SE-PR SE-ST SE-SST SE-ID SE-STG EE-CO EE-PR EE-ST EE-SST EE-STG"
     COMPREPLY=()
     case ${COMP_WORDS[1]} in
         check) options="-p -a -f -r -c" ;;

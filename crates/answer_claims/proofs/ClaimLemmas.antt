@@ -6,6 +6,7 @@ use Rattle.std.specs.List.{list_any}
 use Rattle.std.proofs.lemmas.List.{append-nil, get_or-map, length-map, map-append, take_all, take_more}
 use Rattle.std.proofs.lemmas.List.Elements.{Contains-append_left, Contains-append_right, Contains-append_cases}
 use Rattle.lists.proofs.Filters.{Contains-filter}
+use Rattle.semantics.specs.declared.mode.Mode.{Mode}
 use Rattle.semantics.specs.Frameworks.{Framework, af, aba}
 use Rattle.meaning_atoms.specs.declared.atom.Atom.{Atom}
 use Rattle.meaning_atoms.specs.declared.atom.Atom.TheVariants.{Member, Range}
@@ -202,7 +203,7 @@ claim_at_index f (c ∷ cs) (t ∷ ts) (suc k) d e all lt = claim_at_index f cs 
 claim_at_index f [] (t ∷ ts) k d e all lt = absurd all
 claim_at_index f (c ∷ cs) [] k d e all lt = absurd all
 
--- ---- the claims of all semi-stable sets
+-- ---- the claims of all sets with widest ranges
 
 -- there is a range for each of the sets that are first with theirs
 pub as_many_ranges : (f : Framework) (all : List (List ℕ)) (first : FirstRanged) → IsFirstRanged f all first
@@ -210,31 +211,31 @@ pub as_many_ranges : (f : Framework) (all : List (List ℕ)) (first : FirstRange
 as_many_ranges f all first is = ap length is.same ∙ length-map first.sets (range_of f)
 
 -- the claims so far, for whichever framework the ranges are of
-abbrev pub FirstClaims : List (List ℕ) → List (List ℕ) → FirstRanged → ℕ → List Claim → Type 0
-FirstClaims all ranges first k list =
+abbrev pub FirstClaims : Mode → List (List ℕ) → List (List ℕ) → FirstRanged → ℕ → List Claim → Type 0
+FirstClaims mode all ranges first k list =
     (f : Framework) → IsFirstRanged f all first → ranges ≡ map (range_of f) all
-    → AreClaims f list (range_cover f [] first.sets ∷ map (range_listed f all) (take k first.sets))
+    → AreClaims f list (range_cover f mode [] first.sets ∷ map (range_listed f mode all) (take k first.sets))
 
-pub first_claims_more : (all ranges : List (List ℕ)) (first : FirstRanged) (k : ℕ) (set own : List ℕ)
+pub first_claims_more : (mode : Mode) (all ranges : List (List ℕ)) (first : FirstRanged) (k : ℕ) (set own : List ℕ)
     (sets owns : List (List ℕ)) (c : Claim) (old new : List Claim) → sets ≡ first.sets → owns ≡ first.ranges
     → k < length sets → set ≡ get_or sets k set → own ≡ get_or owns k own
-    → ((f : Framework) → ranges ≡ map (range_of f) all → own ≡ range_of f set → IsClaimOf f c (range_listed f all set))
-    → FirstClaims all ranges first k old → new ≡ old ++ c ∷ [] → FirstClaims all ranges first (k + 1) new
-first_claims_more all ranges first k set own sets owns c old new is_sets is_owns lt at own_at claim before e f is same =
+    → ((f : Framework) → ranges ≡ map (range_of f) all → own ≡ range_of f set → IsClaimOf f c (range_listed f mode all set))
+    → FirstClaims mode all ranges first k old → new ≡ old ++ c ∷ [] → FirstClaims mode all ranges first (k + 1) new
+first_claims_more mode all ranges first k set own sets owns c old new is_sets is_owns lt at own_at claim before e f is same =
     let below : k < length first.sets = subst (λ l. k < length l) is_sets lt in
     let here : set ≡ get_or first.sets k set = at ∙ ap (λ l. get_or l k set) is_sets in
     let mine : own ≡ range_of f set =
     own_at ∙ (ap (λ l. get_or l k own) (is_owns ∙ is.same)
     ∙ (get_or-map (range_of f) first.sets k set own below ∙ ap (range_of f) (sym here))) in
-    claims_more f (range_listed f all) (range_cover f [] first.sets ∷ []) old new first.sets k set c
-    (range_listed f all set) below here (before f is same) refl (claim f same mine) e
+    claims_more f (range_listed f mode all) (range_cover f mode [] first.sets ∷ []) old new first.sets k set c
+    (range_listed f mode all set) below here (before f is same) refl (claim f same mine) e
 
-pub first_claims_all : (all ranges : List (List ℕ)) (first : FirstRanged) (k : ℕ) (list : List Claim)
-    → length first.sets ≤ k → FirstClaims all ranges first k list → (f : Framework) → IsFirstRanged f all first
-    → ranges ≡ map (range_of f) all → AreClaims f list (claims f (AllWidest all) [])
-first_claims_all all ranges first k list end h f is same =
-    let table : range_cover f [] first.sets ∷ map (range_listed f all) (take k first.sets)
-    ≡ range_cover f [] (first_ranged f all) ∷ map (range_listed f all) (first_ranged f all) =
-    ap (λ l. range_cover f [] first.sets ∷ map (range_listed f all) l) (take_all k first.sets end)
-    ∙ ap (λ l. range_cover f [] l ∷ map (range_listed f all) l) is.first in
+pub first_claims_all : (mode : Mode) (all ranges : List (List ℕ)) (first : FirstRanged) (k : ℕ) (list : List Claim)
+    → length first.sets ≤ k → FirstClaims mode all ranges first k list → (f : Framework) → IsFirstRanged f all first
+    → ranges ≡ map (range_of f) all → AreClaims f list (claims f (AllWidest mode all) [])
+first_claims_all mode all ranges first k list end h f is same =
+    let table : range_cover f mode [] first.sets ∷ map (range_listed f mode all) (take k first.sets)
+    ≡ range_cover f mode [] (first_ranged f all) ∷ map (range_listed f mode all) (first_ranged f all) =
+    ap (λ l. range_cover f mode [] first.sets ∷ map (range_listed f mode all) l) (take_all k first.sets end)
+    ∙ ap (λ l. range_cover f mode [] l ∷ map (range_listed f mode all) l) is.first in
     subst (λ ts. AreClaims f list ts) table (h f is same)

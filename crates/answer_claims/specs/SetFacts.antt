@@ -27,5 +27,5 @@ AreSetsOf (aba f) sets = ⊥
 
 -- so have those of a row whose sets are all the extensions by their ranges
 abbrev pub HasSetsOf : Framework → Row → Type 0
-HasSetsOf f (AllWidest sets) = AreSetsOf f sets
+HasSetsOf f (AllWidest mode sets) = AreSetsOf f sets
 HasSetsOf f _ = Unit {0}

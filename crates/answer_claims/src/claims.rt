@@ -16,12 +16,13 @@ ghost use Rattle.answer_claims.specs.SideClauses.{sides_of};
 use crate::claim::Claim;
 use crate::hits::hit_by;
 use crate::kinds::{all_ranges, first_with_ranges};
-use crate::rows::{copies, goal_literal, one, opposite, two, yes};
+use crate::rows::{copies, goal_literal, of_mode, one, opposite, two, yes};
 use crate::sides::SideKind;
 use certificate_claims::{FirstRanged, Row, with_range};
 use edit_rules::Framework;
 use lists::{Items, Memory};
 use meaning_atoms::{Atom, AtomLit};
+use semantics::Mode;
 use set_lists::NumSet;
 use std::alloc::Global;
 
@@ -142,12 +143,17 @@ fn largest_claims(
     Ok(list)
 }
 
-/// The claims that no admissible set has a larger range than a set.
-fn widest_claims(alloc: Global, framework: &Framework, set: &NumSet) -> Result<Items<Claim>, Memory>
+/// The claims that no set of the mode has a larger range than a set.
+fn widest_claims(
+    alloc: Global,
+    framework: &Framework,
+    mode: Mode,
+    set: &NumSet,
+) -> Result<Items<Claim>, Memory>
     ensures { IfOk result (λ cs. AreClaims (framework_of framework.now) cs
-        (claims (framework_of framework.now) (Widest set.now) [])) }
+        (claims (framework_of framework.now) (Widest mode set.now) [])) }
 {
-    let fixed = one(alloc, yes(Atom::Ad))?;
+    let fixed = one(alloc, of_mode(mode))?;
     let ranged = set.copy(alloc)?;
     let sides = one_set(alloc, set)?;
     let claim = range_goals(alloc, fixed, ranged, SideKind::Wider, sides);
@@ -225,35 +231,36 @@ fn all_largest_claims(
     Ok(list)
 }
 
-/// The claim that no admissible set that makes a literal true has all of a set's range.
-fn free_claim(alloc: Global, bad: AtomLit, set: &NumSet) -> Result<Claim, Memory>
-    ensures { IfOk result (λ c. (f : AnyFramework) → IsClaimOf f c (range_free f bad set.now)) }
+/// The claim that no set of the mode that makes a literal true has all of a set's range.
+fn free_claim(alloc: Global, mode: Mode, bad: AtomLit, set: &NumSet) -> Result<Claim, Memory>
+    ensures { IfOk result (λ c. (f : AnyFramework) → IsClaimOf f c (range_free f mode bad set.now)) }
 {
-    let fixed = two(alloc, yes(Atom::Ad), bad)?;
+    let fixed = two(alloc, of_mode(mode), bad)?;
     let ranged = set.copy(alloc)?;
     let sides = Items::new(alloc);
     let claim = range_goals(alloc, fixed, ranged, SideKind::Outside, sides);
     Ok(claim)
 }
 
-/// The claims that each admissible set that makes a literal true has its range in that of one of the sets, and that
+/// The claims that each set of the mode that makes a literal true has its range in that of one of the sets, and that
 /// none has all of such a range.
 fn ranged_claims(
     alloc: Global,
     framework: &Framework,
+    mode: Mode,
     bad: AtomLit,
     sets: &[NumSet],
 ) -> Result<Items<Claim>, Memory>
     ensures { IfOk result (λ cs. AreClaims (framework_of framework.now) cs
-        (claims (framework_of framework.now) (Ranged bad) sets.now)) }
+        (claims (framework_of framework.now) (Ranged mode bad) sets.now)) }
 {
     let _kind = framework.kind();
-    let fixed = two(alloc, yes(Atom::Ad), bad)?;
+    let fixed = two(alloc, of_mode(mode), bad)?;
     let sides = copies(alloc, sets)?;
     let cover = few_goals(alloc, fixed, SideKind::Wider, sides);
     let mut list = one_claim(alloc, cover)?;
     for index in 0..sets.len() {
-        let free = free_claim(alloc, bad, &sets[index])?;
+        let free = free_claim(alloc, mode, bad, &sets[index])?;
         list.push(free)?;
     }
     Ok(list)
@@ -297,10 +304,11 @@ fn ideal_claims_of(
     }
 }
 
-/// The claim that each admissible set with all of a set's range is one of the listed sets with that range. The ranges
+/// The claim that each set of the mode with all of a set's range is one of the listed sets with that range. The ranges
 /// are those of the listed sets and of the set.
 fn listed_claim(
     alloc: Global,
+    mode: Mode,
     all: &[NumSet],
     ranges: &[NumSet],
     set: &NumSet,
@@ -308,20 +316,20 @@ fn listed_claim(
 ) -> Result<Claim, Memory>
     requires { length ranges.now ≡ length all.now }
     ensures { IfOk result (λ c. (f : AnyFramework) → ranges.now ≡ map (range_of f) all.now
-        → range.now ≡ range_of f set.now → IsClaimOf f c (range_listed f all.now set.now)) }
+        → range.now ≡ range_of f set.now → IsClaimOf f c (range_listed f mode all.now set.now)) }
 {
-    let fixed = one(alloc, yes(Atom::Ad))?;
+    let fixed = one(alloc, of_mode(mode))?;
     let ranged = set.copy(alloc)?;
     let sides = with_range(alloc, all, ranges, range)?;
     let claim = range_goals(alloc, fixed, ranged, SideKind::Differs, sides);
     Ok(claim)
 }
 
-/// The claim, alone in a list, that each admissible set has its range in that of one of the sets.
-fn cover_alone(alloc: Global, sets: &[NumSet]) -> Result<Items<Claim>, Memory>
-    ensures { IfOk result (λ cs. (f : AnyFramework) → AreClaims f cs (range_cover f [] sets.now ∷ [])) }
+/// The claim, alone in a list, that each set of the mode has its range in that of one of the sets.
+fn cover_alone(alloc: Global, mode: Mode, sets: &[NumSet]) -> Result<Items<Claim>, Memory>
+    ensures { IfOk result (λ cs. (f : AnyFramework) → AreClaims f cs (range_cover f mode [] sets.now ∷ [])) }
 {
-    let fixed = one(alloc, yes(Atom::Ad))?;
+    let fixed = one(alloc, of_mode(mode))?;
     let sides = copies(alloc, sets)?;
     let cover = few_goals(alloc, fixed, SideKind::Wider, sides);
     let list = one_claim(alloc, cover)?;
@@ -332,6 +340,7 @@ fn cover_alone(alloc: Global, sets: &[NumSet]) -> Result<Items<Claim>, Memory>
 /// each of them is of listed sets alone.
 fn first_claims(
     alloc: Global,
+    mode: Mode,
     first: &FirstRanged,
     all: &[NumSet],
     ranges: &[NumSet],
@@ -339,32 +348,33 @@ fn first_claims(
     requires own { length first.now.ranges ≡ length first.now.sets }
     requires listed { length ranges.now ≡ length all.now }
     ensures { IfOk result (λ cs. (f : AnyFramework) → IsFirstRanged f all.now first.now
-        → ranges.now ≡ map (range_of f) all.now → AreClaims f cs (claims f (AllWidest all.now) [])) }
+        → ranges.now ≡ map (range_of f) all.now → AreClaims f cs (claims f (AllWidest mode all.now) [])) }
 {
     let sets = first.sets.as_slice();
     let own = first.ranges.as_slice();
-    let mut list = cover_alone(alloc, sets)?;
+    let mut list = cover_alone(alloc, mode, sets)?;
     for index in 0..sets.len() {
-        let listed = listed_claim(alloc, all, ranges, &sets[index], &own[index])?;
+        let listed = listed_claim(alloc, mode, all, ranges, &sets[index], &own[index])?;
         list.push(listed)?;
     }
     Ok(list)
 }
 
-/// The claims that each admissible set has its range in that of one of the sets, and that no other set has all of such
-/// a range.
+/// The claims that each set of the mode has its range in that of one of the sets, and that no other set of the mode
+/// has all of such a range.
 fn all_widest_claims(
     alloc: Global,
     framework: &Framework,
+    mode: Mode,
     all: &[NumSet],
 ) -> Result<Items<Claim>, Memory>
     requires { AreSetsOf (framework_of framework.now) all.now }
     ensures { IfOk result (λ cs. AreClaims (framework_of framework.now) cs
-        (claims (framework_of framework.now) (AllWidest all.now) [])) }
+        (claims (framework_of framework.now) (AllWidest mode all.now) [])) }
 {
     let first = first_with_ranges(alloc, framework, all)?;
     let ranges = all_ranges(alloc, framework, all)?;
-    let list = first_claims(alloc, &first, all, ranges.as_slice())?;
+    let list = first_claims(alloc, mode, &first, all, ranges.as_slice())?;
     Ok(list)
 }
 
@@ -383,10 +393,10 @@ pub fn claims_of(
     match row {
         Row::Misshapen | Row::Tested(_) | Row::ByGrounded(_) => Ok(Items::new(alloc)),
         Row::Largest(set) => Ok(largest_claims(alloc, framework, set)?),
-        Row::Widest(set) => Ok(widest_claims(alloc, framework, set)?),
+        Row::Widest(mode, set) => Ok(widest_claims(alloc, framework, *mode, set)?),
         Row::Excluded(goals) => Ok(excluded_claims(alloc, framework, goals.as_slice())?),
         Row::Covered(number) => Ok(covered_claims(alloc, framework, *number, sets)?),
-        Row::Ranged(bad) => Ok(ranged_claims(alloc, framework, *bad, sets)?),
+        Row::Ranged(mode, bad) => Ok(ranged_claims(alloc, framework, *mode, *bad, sets)?),
         Row::AllTested(mode, all) => Ok(all_tested_claims(
             alloc,
             framework,
@@ -395,6 +405,11 @@ pub fn claims_of(
         )?),
         Row::AllLargest(all) => Ok(all_largest_claims(alloc, framework, all.as_slice())?),
         Row::Ideal(_, _) => Ok(ideal_claims_of(alloc, framework, sets)?),
-        Row::AllWidest(all) => Ok(all_widest_claims(alloc, framework, all.as_slice())?),
+        Row::AllWidest(mode, all) => Ok(all_widest_claims(
+            alloc,
+            framework,
+            *mode,
+            all.as_slice(),
+        )?),
     }
 }

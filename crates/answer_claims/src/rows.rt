@@ -4,17 +4,18 @@ ghost use Rattle.std.specs.Bool.{OnFalse, OnTrue};
 ghost use Rattle.std.specs.Prelude.{◌≡◌, ◌∷◌, [], IfOk};
 ghost use Rattle.meaning_atoms.specs.Literals.{affirmed, negated};
 ghost use Rattle.iccma_tasks.specs.declared.answer.Answer.TheVariants.{Sets};
-ghost use Rattle.certificate_claims.specs.Claims.{all_row, all_shown, credulous_row, each_accepts, none_accepts, row_for, row_of, row_where, sceptical_row, sets_of, shown, some_row, there_is_none};
+ghost use Rattle.certificate_claims.specs.Claims.{all_row, all_shown, credulous_row, each_accepts, mode_atom, none_accepts, row_for, row_of, row_where, sceptical_row, sets_of, shown, some_row, there_is_none};
 ghost use Rattle.certificate_claims.specs.declared.row.Row.{Row};
 ghost use Rattle.certificate_claims.specs.declared.row.Row.TheVariants.{Misshapen};
 ghost use Rattle.certificate_claims.specs.SetLiterals.{goal};
 ghost use Rattle.edit_rules.specs.Kinds.{framework_of};
 
-use certificate_claims::Row;
+use certificate_claims::{Row, mode_atom};
 use edit_rules::Framework;
 use iccma_tasks::{Answer, Problem, Query, Semantics};
 use lists::{Items, Memory};
 use meaning_atoms::{Atom, AtomLit, Closure};
+use semantics::Mode;
 use set_lists::NumSet;
 use std::alloc::Global;
 
@@ -36,6 +37,13 @@ pub(crate) fn yes(atom: Atom) -> AtomLit
         atom,
         positive: true,
     }
+}
+
+/// The literal that a set is of the mode.
+pub(crate) fn of_mode(mode: Mode) -> AtomLit
+    ensures { result ≡ affirmed (mode_atom mode) }
+{
+    yes(mode_atom(mode))
 }
 
 /// The literal that says the opposite.
@@ -91,7 +99,8 @@ fn shown_row(
     match semantics {
         Semantics::Complete | Semantics::Grounded | Semantics::Stable => Ok(Row::Tested(set)),
         Semantics::Preferred => Ok(Row::Largest(set)),
-        Semantics::SemiStable => Ok(Row::Widest(set)),
+        Semantics::SemiStable => Ok(Row::Widest(Mode::Ad, set)),
+        Semantics::Stage => Ok(Row::Widest(Mode::Cf, set)),
         Semantics::Ideal => Ok(Row::Ideal(Some(set), says)),
     }
 }
@@ -111,7 +120,8 @@ fn none_row(
         Semantics::Grounded => Ok(Row::ByGrounded(false)),
         Semantics::Preferred => Ok(Row::Excluded(two(alloc, yes(Atom::Ad), literal)?)),
         Semantics::Stable => Ok(Row::Excluded(two(alloc, yes(Atom::St), literal)?)),
-        Semantics::SemiStable => Ok(Row::Ranged(literal)),
+        Semantics::SemiStable => Ok(Row::Ranged(Mode::Ad, literal)),
+        Semantics::Stage => Ok(Row::Ranged(Mode::Cf, literal)),
         Semantics::Ideal => Ok(Row::Ideal(None, Some(false))),
     }
 }
@@ -130,7 +140,8 @@ fn each_row(
         Semantics::Complete | Semantics::Grounded => Ok(Row::ByGrounded(true)),
         Semantics::Preferred => Ok(Row::Covered(number)),
         Semantics::Stable => Ok(Row::Excluded(two(alloc, yes(Atom::St), literal)?)),
-        Semantics::SemiStable => Ok(Row::Ranged(literal)),
+        Semantics::SemiStable => Ok(Row::Ranged(Mode::Ad, literal)),
+        Semantics::Stage => Ok(Row::Ranged(Mode::Cf, literal)),
         Semantics::Ideal => Ok(Row::Ideal(None, Some(true))),
     }
 }
@@ -154,7 +165,8 @@ fn all_shown_row(alloc: Global, semantics: Semantics, sets: &[NumSet]) -> Result
         Semantics::Complete => Ok(Row::AllTested(Atom::Co, sets)),
         Semantics::Preferred => Ok(Row::AllLargest(sets)),
         Semantics::Stable => Ok(Row::AllTested(Atom::St, sets)),
-        Semantics::SemiStable => Ok(Row::AllWidest(sets)),
+        Semantics::SemiStable => Ok(Row::AllWidest(Mode::Ad, sets)),
+        Semantics::Stage => Ok(Row::AllWidest(Mode::Cf, sets)),
         Semantics::Grounded | Semantics::Ideal => Ok(Row::Misshapen),
     }
 }
@@ -253,13 +265,13 @@ pub fn row(
 }
 
 /// Whether answers by the semantics have rows on the framework: those on assumption-based frameworks have none by
-/// semi-stable and by ideal sets.
+/// semi-stable, ideal and stage sets.
 fn has_rows(framework: &Framework, semantics: Semantics) -> bool
     ensures has { OnTrue result ((row : Row) → row_where semantics (framework_of framework.now) row ≡ row) }
     ensures none { OnFalse result ((row : Row) → row_where semantics (framework_of framework.now) row ≡ Misshapen) }
 {
     match (framework, semantics) {
-        (Framework::Aba(_), Semantics::SemiStable | Semantics::Ideal) => false,
+        (Framework::Aba(_), Semantics::SemiStable | Semantics::Ideal | Semantics::Stage) => false,
         _ => true,
     }
 }

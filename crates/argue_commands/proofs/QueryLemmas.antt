@@ -13,7 +13,7 @@ use Rattle.iccma_tasks.specs.declared.task.Kind.TheVariants.{Af}
 use Rattle.iccma_tasks.specs.declared.task.Problem.{Problem}
 use Rattle.iccma_tasks.specs.declared.task.Problem.TheVariants.{Credulous, Sceptical, SomeExtension, AllExtensions}
 use Rattle.iccma_tasks.specs.declared.task.Semantics.{Semantics}
-use Rattle.iccma_tasks.specs.declared.task.Semantics.TheVariants.{Complete, Grounded, Preferred, Stable, SemiStable, Ideal}
+use Rattle.iccma_tasks.specs.declared.task.Semantics.TheVariants.{Complete, Grounded, Preferred, Stable, SemiStable, Ideal, Stage}
 use Rattle.iccma_tasks.specs.declared.task.Task.{Task}
 use Rattle.iccma_tasks.specs.Tasks.{Asked, FitsTask, HasTask, IsTask, all_tasks, task_name, task_of}
 use Rattle.argue_commands.specs.Queries.{asked_with, first_named, fits_task, number_of, spells_number}
@@ -29,24 +29,28 @@ named_at Credulous Preferred is = refl
 named_at Credulous Stable is = refl
 named_at Credulous SemiStable is = refl
 named_at Credulous Ideal is = refl
+named_at Credulous Stage is = refl
 named_at Sceptical Complete is = refl
 named_at Sceptical Grounded is = refl
 named_at Sceptical Preferred is = refl
 named_at Sceptical Stable is = refl
 named_at Sceptical SemiStable is = refl
 named_at Sceptical Ideal is = refl
+named_at Sceptical Stage is = refl
 named_at SomeExtension Complete is = refl
 named_at SomeExtension Grounded is = refl
 named_at SomeExtension Preferred is = refl
 named_at SomeExtension Stable is = refl
 named_at SomeExtension SemiStable is = refl
 named_at SomeExtension Ideal is = refl
+named_at SomeExtension Stage is = refl
 named_at AllExtensions Complete is = refl
 named_at AllExtensions Grounded is = absurd is
 named_at AllExtensions Preferred is = refl
 named_at AllExtensions Stable is = refl
 named_at AllExtensions SemiStable is = refl
 named_at AllExtensions Ideal is = absurd is
+named_at AllExtensions Stage is = refl
 
 pub task_found : (name : List ℕ) (task : Task) → IsTask task → task_name task ≡ name
     → first_named all_tasks name ≡ Some task

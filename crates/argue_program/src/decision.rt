@@ -23,8 +23,8 @@ use std::thread::Threads;
 
 /// The line of `--problems`.
 const PROBLEMS: &str = concat!(
-    "[DC-CO,DC-GR,DC-PR,DC-ST,DC-SST,DC-ID,DS-CO,DS-GR,DS-PR,DS-ST,DS-SST,DS-ID,",
-    "SE-CO,SE-GR,SE-PR,SE-ST,SE-SST,SE-ID,EE-CO,EE-PR,EE-ST,EE-SST]\n",
+    "[DC-CO,DC-GR,DC-PR,DC-ST,DC-SST,DC-ID,DC-STG,DS-CO,DS-GR,DS-PR,DS-ST,DS-SST,DS-ID,DS-STG,",
+    "SE-CO,SE-GR,SE-PR,SE-ST,SE-SST,SE-ID,SE-STG,EE-CO,EE-PR,EE-ST,EE-SST,EE-STG]\n",
 );
 
 /// The ending of a command that wants no sessions in threads.

@@ -3,7 +3,7 @@
 use lists::{Items, Memory};
 use semantics::Notion::{
     Admissible, Complete, ConflictFree, Grounded, Ideal, InAllPreferred, Preferred, SemiStable,
-    Stable,
+    Stable, Stage,
 };
 use semantics::{AfLists, Notion, decide};
 use std::alloc::Global;
@@ -77,6 +77,7 @@ const ROWS: &[Row] = &[
     (THREE, RING, Preferred, &[&[]]),
     (THREE, RING, Stable, &[]),
     (THREE, RING, Ideal, &[&[]]),
+    (THREE, RING, Stage, &[&[1], &[2], &[3]]),
     (&[], &[], Stable, &[&[]]),
     (FOUR, TWO_SELVES, Preferred, &[&[1], &[2]]),
     (FOUR, TWO_SELVES, SemiStable, &[&[2]]),
@@ -86,6 +87,7 @@ const ROWS: &[Row] = &[
     (&[1, 2], SELF_RIVAL, InAllPreferred, &[&[], &[2]]),
     (&[1, 2], SELF_RIVAL, Ideal, &[&[2]]),
     (THREE, SELF_FIRST, SemiStable, &[&[]]),
+    (THREE, SELF_FIRST, Stage, &[&[2]]),
     (THREE, SELF_FIRST, Ideal, &[&[]]),
 ];
 

@@ -5,23 +5,26 @@ use Rattle.std.proofs.lemmas.Bool.{false≢true}
 use Rattle.std.proofs.lemmas.List.{get_or_default}
 use mathlib.Core.Bool.{beq}
 use Rattle.lists.specs.Members.{IsWithin}
-use Rattle.semantics.specs.Framework.{Af, IsAdmissible}
+use Rattle.semantics.specs.declared.mode.Mode.{Mode}
+use Rattle.semantics.specs.Framework.{Af}
 use Rattle.semantics.specs.Frameworks.{Framework, af, aba}
 use Rattle.semantics.specs.AbaFrameworks.{Aba}
+use Rattle.meaning_atoms.specs.Worlds.{HoldsOf}
 use Rattle.iccma_tasks.specs.declared.answer.Answer.{Answer}
 use Rattle.iccma_tasks.specs.declared.answer.Answer.TheVariants.{Yes, No, Sets}
 use Rattle.iccma_tasks.specs.declared.task.Problem.{Problem}
 use Rattle.iccma_tasks.specs.declared.task.Problem.TheVariants.{Credulous, Sceptical, SomeExtension, AllExtensions}
 use Rattle.iccma_tasks.specs.declared.task.Semantics.{Semantics}
-use Rattle.iccma_tasks.specs.declared.task.Semantics.TheVariants.{Complete, Grounded, Preferred, Stable, SemiStable, Ideal}
+use Rattle.iccma_tasks.specs.declared.task.Semantics.TheVariants.{Complete, Grounded, Preferred, Stable, SemiStable, Ideal, Stage}
 use Rattle.iccma_tasks.specs.Tasks.{Asked}
 use Rattle.certificate_claims.specs.declared.row.Row.{Row}
 use Rattle.certificate_claims.specs.declared.row.Row.TheVariants.{Misshapen, Tested, Largest, Widest, Excluded, ByGrounded, Covered, Ranged, Ideal as IdealRow, AllTested, AllLargest, AllWidest}
 use Rattle.certificate_claims.specs.Acceptance.{GroundedSays, PassesTest}
-use Rattle.certificate_claims.specs.Claims.{shown, none_accepts, each_accepts, there_is_none, all_shown, credulous_row, sceptical_row, some_row, all_row, row_for, row_of, row_where, sets_of}
+use Rattle.certificate_claims.specs.Claims.{mode_atom, shown, none_accepts, each_accepts, there_is_none, all_shown, credulous_row, sceptical_row, some_row, all_row, row_for, row_of, row_where, sets_of}
 use Rattle.certificate_claims.specs.Ranges.{AreLive}
 use Rattle.certificate_claims.specs.Rights.{Accepts, IsExtension}
 use Rattle.certificate_claims.proofs.KindFacts.{accepts_more, grounded_is}
+use Rattle.certificate_claims.proofs.Modes.{mode_members}
 use Rattle.answer_claims.specs.SetFacts.{HasSetsOf}
 use Rattle.certificate_check.specs.Standing.{IsFirstWithout}
 use Rattle.certificate_check.specs.Witnesses.{HasRanges, IsRowOf, IsTestedRow, ShowsSets}
@@ -37,6 +40,7 @@ shown_known Preferred e says sets = (record {}, record {})
 shown_known Stable e says sets = (record {}, record {})
 shown_known SemiStable e says sets = (record {}, record {})
 shown_known Ideal e says sets = (record {}, record {})
+shown_known Stage e says sets = (record {}, record {})
 
 none_known : (f : Framework) (s : Semantics) (q : ℕ) (sets : List (List ℕ)) → Known (none_accepts f s q) s sets
 none_known f Complete q sets = (record {}, record {})
@@ -45,6 +49,7 @@ none_known f Preferred q sets = (record {}, record {})
 none_known f Stable q sets = (record {}, record {})
 none_known f SemiStable q sets = (record {}, record {})
 none_known f Ideal q sets = (record {}, record {})
+none_known f Stage q sets = (record {}, record {})
 
 each_known : (f : Framework) (s : Semantics) (q : ℕ) (sets : List (List ℕ)) → Known (each_accepts f s q) s sets
 each_known f Complete q sets = (record {}, record {})
@@ -53,6 +58,7 @@ each_known f Preferred q sets = (record {}, record {})
 each_known f Stable q sets = (record {}, record {})
 each_known f SemiStable q sets = (record {}, record {})
 each_known f Ideal q sets = (record {}, record {})
+each_known f Stage q sets = (record {}, record {})
 
 no_known : (s : Semantics) (sets : List (List ℕ)) → Known (there_is_none s) s sets
 no_known Complete sets = (record {}, record {})
@@ -61,6 +67,7 @@ no_known Preferred sets = (record {}, record {})
 no_known Stable sets = (record {}, record {})
 no_known SemiStable sets = (record {}, record {})
 no_known Ideal sets = (record {}, record {})
+no_known Stage sets = (record {}, record {})
 
 all_known : (s : Semantics) (sets : List (List ℕ)) → Known (all_shown s sets) s sets
 all_known Complete sets = (record {}, record {})
@@ -69,6 +76,7 @@ all_known Preferred sets = (record {}, record {})
 all_known Stable sets = (record {}, record {})
 all_known SemiStable sets = (record {}, refl)
 all_known Ideal sets = (record {}, record {})
+all_known Stage sets = (record {}, refl)
 
 credulous_known : (f : Framework) (s : Semantics) (q : ℕ) (answer : Answer)
     → Known (credulous_row f s q answer) s (sets_of answer)
@@ -123,10 +131,12 @@ known_where (af f) SemiStable row shown known = known
 known_where (aba f) SemiStable row shown known = (record {}, record {})
 known_where (af f) Ideal row shown known = known
 known_where (aba f) Ideal row shown known = (record {}, record {})
+known_where (af f) Stage row shown known = known
+known_where (aba f) Stage row shown known = (record {}, record {})
 
 -- a row of another semantics lists no sets by their ranges
 not_wide : (f : Aba) (s : Semantics) (row : Row) → (HasRanges s → ⊥) → IsTestedRow row s → IsRowOf (aba f) row
-not_wide f s (AllWidest sets) never is = never is
+not_wide f s (AllWidest mode sets) never is = never is
 not_wide f s _ never is = record {}
 
 row_of_kind : (f : Framework) (s : Semantics) (row : Row) → IsTestedRow row s → IsRowOf f (row_where s f row)
@@ -137,6 +147,7 @@ row_of_kind (aba f) Preferred row is = not_wide f Preferred row (λ h. h) is
 row_of_kind (aba f) Stable row is = not_wide f Stable row (λ h. h) is
 row_of_kind (aba f) SemiStable row is = record {}
 row_of_kind (aba f) Ideal row is = record {}
+row_of_kind (aba f) Stage row is = record {}
 
 -- what is known of an answer's row
 pub answer_known : (f : Framework) (asked : Asked) (answer : Answer)
@@ -151,25 +162,25 @@ answer_of_kind f asked answer =
     (row_known f asked.task.problem asked.task.semantics asked.number answer).0
 
 -- sets that pass their tests have live arguments alone
-each_live : (f : Af) (sets : List (List ℕ)) → ((k : ℕ) → k < length sets → IsAdmissible f (get_or sets k []))
-    → AreLive f sets
-each_live f sets all s c = subst (λ x. IsWithin x f.live) (get_or_default sets c.0 [] s c.1 ∙ c.2)
-    (all c.0 c.1).conflict_free.live
+each_live : (mode : Mode) (f : Af) (sets : List (List ℕ))
+    → ((k : ℕ) → k < length sets → HoldsOf (af f) (get_or sets k []) (mode_atom mode)) → AreLive f sets
+each_live mode f sets all s c = subst (λ x. IsWithin x f.live) (get_or_default sets c.0 [] s c.1 ∙ c.2)
+    (mode_members mode (af f) (get_or sets c.0 []) (all c.0 c.1))
 
 pub tested_sets : (f : Framework) (asked : Asked) (row : Row) (listed : List (List ℕ)) → ShowsSets row listed
     → IsRowOf f row
     → IsFirstWithout (λ k. PassesTest f asked row (get_or listed k [])) (length listed) None → HasSetsOf f row
-tested_sets (af f) asked (AllWidest sets) listed same kind all = each_live f sets (λ k lt.
-    subst (λ l. IsAdmissible f (get_or l k [])) (sym same) (all k (subst (λ l. k < length l) same lt)))
-tested_sets (aba f) asked (AllWidest sets) listed same kind all = absurd kind
+tested_sets (af f) asked (AllWidest mode sets) listed same kind all = each_live mode f sets (λ k lt.
+    subst (λ l. HoldsOf (af f) (get_or l k []) (mode_atom mode)) (sym same) (all k (subst (λ l. k < length l) same lt)))
+tested_sets (aba f) asked (AllWidest mode sets) listed same kind all = absurd kind
 tested_sets f asked Misshapen listed same kind all = record {}
 tested_sets f asked (Tested e) listed same kind all = record {}
 tested_sets f asked (Largest e) listed same kind all = record {}
-tested_sets f asked (Widest e) listed same kind all = record {}
+tested_sets f asked (Widest mode e) listed same kind all = record {}
 tested_sets f asked (Excluded goals) listed same kind all = record {}
 tested_sets f asked (ByGrounded says) listed same kind all = record {}
 tested_sets f asked (Covered q) listed same kind all = record {}
-tested_sets f asked (Ranged bad) listed same kind all = record {}
+tested_sets f asked (Ranged mode bad) listed same kind all = record {}
 tested_sets f asked (IdealRow e says) listed same kind all = record {}
 tested_sets f asked (AllTested mode sets) listed same kind all = record {}
 tested_sets f asked (AllLargest sets) listed same kind all = record {}

@@ -2,7 +2,7 @@
 use Rattle.std.specs.Prelude.{◌≡◌, ◌↔◌, ℕ, Bool, List, IsTrue}
 use Rattle.semantics.specs.Frameworks.{Framework, aba, af}
 use Rattle.iccma_tasks.specs.declared.task.Semantics.{Semantics}
-use Rattle.iccma_tasks.specs.declared.task.Semantics.TheVariants.{Complete, Grounded, Preferred, Stable, SemiStable, Ideal}
+use Rattle.iccma_tasks.specs.declared.task.Semantics.TheVariants.{Complete, Grounded, Preferred, Stable, SemiStable, Ideal, Stage}
 use Rattle.certificate_claims.specs.declared.row.Row.{Row}
 use Rattle.certificate_claims.specs.declared.row.Row.TheVariants.{Tested, AllTested, AllWidest}
 use Rattle.certificate_claims.specs.Acceptance.{NoRangeWithin}
@@ -18,6 +18,7 @@ IsTested Stable = Unit {0}
 IsTested Preferred = ⊥
 IsTested SemiStable = ⊥
 IsTested Ideal = ⊥
+IsTested Stage = ⊥
 
 -- the list has the arguments of an abstract framework that nothing attacks
 abbrev pub ListsUnattacked : Framework → List ℕ → Type 0
@@ -33,6 +34,7 @@ IsBasis f _ basis = Unit {0}
 -- the extensions under the semantics have the largest ranges
 abbrev pub HasRanges : Semantics → Type 0
 HasRanges SemiStable = Unit {0}
+HasRanges Stage = Unit {0}
 HasRanges _ = ⊥
 
 -- a row that shows extensions is of a semantics whose extensions are tested directly, and one that lists them by their
@@ -40,17 +42,17 @@ HasRanges _ = ⊥
 abbrev pub IsTestedRow : Row → Semantics → Type 0
 IsTestedRow (Tested e) semantics = IsTested semantics
 IsTestedRow (AllTested mode sets) semantics = IsTested semantics
-IsTestedRow (AllWidest sets) semantics = HasRanges semantics
+IsTestedRow (AllWidest mode sets) semantics = HasRanges semantics
 IsTestedRow _ semantics = Unit {0}
 
 -- extensions of abstract frameworks alone are listed by their ranges
 abbrev pub IsRowOf : Framework → Row → Type 0
-IsRowOf (aba f) (AllWidest sets) = ⊥
+IsRowOf (aba f) (AllWidest mode sets) = ⊥
 IsRowOf f row = Unit {0}
 
 -- the sets of a row that are all the extensions by their ranges are those that the answer shows
 abbrev pub ShowsSets : Row → List (List ℕ) → Type 0
-ShowsSets (AllWidest sets) shown = sets ≡ shown
+ShowsSets (AllWidest mode sets) shown = sets ≡ shown
 ShowsSets _ shown = Unit {0}
 
 -- whether no set's range lies in another, different one

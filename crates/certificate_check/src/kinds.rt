@@ -7,6 +7,7 @@ ghost use Rattle.semantics.specs.Laws.{HasSameMembers};
 ghost use Rattle.meaning_atoms.specs.declared.atom.Atom.TheVariants.{Ad};
 ghost use Rattle.meaning_atoms.specs.Worlds.{HoldsOf};
 ghost use Rattle.certificate_claims.specs.Acceptance.{GroundedSays};
+ghost use Rattle.certificate_claims.specs.Claims.{mode_atom};
 ghost use Rattle.certificate_claims.specs.Rights.{Accepts, IsExtension};
 ghost use Rattle.certificate_claims.specs.SetLiterals.{members};
 ghost use Rattle.edit_rules.specs.Kinds.{framework_of};
@@ -19,6 +20,7 @@ use edit_rules::Framework;
 use iccma_tasks::Semantics;
 use lists::Memory;
 use marked_sets::{Marks, arguments};
+use semantics::Mode;
 use set_lists::NumSet;
 use std::alloc::Global;
 
@@ -34,6 +36,25 @@ pub(crate) fn is_admissible(
     match framework {
         Framework::Af(plain) => Ok(arguments::is_admissible(alloc, plain, set, marks)?),
         Framework::Aba(plain) => Ok(plain.is_admissible(alloc, set)?),
+    }
+}
+
+/// Whether a set is of the mode.
+pub(crate) fn is_of_mode(
+    alloc: Global,
+    framework: &Framework,
+    mode: Mode,
+    set: &NumSet,
+    marks: &mut Marks,
+) -> Result<bool, Memory>
+    ensures { IfOk result (λ is. IsTrue is ↔ HoldsOf (framework_of framework.now) set.now (mode_atom mode)) }
+{
+    match (mode, framework) {
+        (Mode::Ad, _) => Ok(is_admissible(alloc, framework, set, marks)?),
+        (Mode::Cf, Framework::Af(plain)) => Ok(arguments::is_conflict_free(
+            alloc, plain, set, marks,
+        )?),
+        (Mode::Cf, Framework::Aba(plain)) => Ok(plain.is_conflict_free(alloc, set)?),
     }
 }
 

@@ -149,7 +149,7 @@ fn passes_order(alloc: Global, framework: &Framework, row: &Row) -> Result<bool,
     match row {
         Row::AllTested(_, sets) => Ok(sets_rise(sets.as_slice())),
         Row::AllLargest(sets) => Ok(rise_apart(sets.as_slice())),
-        Row::AllWidest(sets) => Ok(rise_wide(alloc, framework, sets.as_slice())?),
+        Row::AllWidest(_, sets) => Ok(rise_wide(alloc, framework, sets.as_slice())?),
         _ => Ok(true),
     }
 }

@@ -5,18 +5,20 @@ ghost use Rattle.meaning_atoms.specs.declared.atom.Atom.TheVariants.{Ad};
 ghost use Rattle.meaning_atoms.specs.Worlds.{HoldsOf};
 ghost use Rattle.certificate_claims.specs.declared.row.Row.TheVariants.{Ideal};
 ghost use Rattle.certificate_claims.specs.Acceptance.{AcceptsAsSaid, IsShaped, IsShown, PassesSet, PassesTest, Suits, TakesSets};
+ghost use Rattle.certificate_claims.specs.Claims.{mode_atom};
 ghost use Rattle.certificate_claims.specs.Rights.{Accepts, IsExtension};
 ghost use Rattle.edit_rules.specs.Kinds.{framework_of};
 ghost use Rattle.certificate_check.specs.Witnesses.{IsBasis, IsTested, IsTestedRow};
 ghost use Rattle.certificate_check.specs.Standing.{IsFirstWithout};
 
-use crate::kinds::{Basis, accepts, basis_of, is_admissible, is_extension};
+use crate::kinds::{Basis, accepts, basis_of, is_admissible, is_extension, is_of_mode};
 use crate::verdict::Checked;
 use certificate_claims::Row;
 use edit_rules::Framework;
 use iccma_tasks::{Problem, Query};
 use lists::Memory;
 use marked_sets::Marks;
+use semantics::Mode;
 use set_lists::NumSet;
 use std::alloc::Global;
 
@@ -50,19 +52,20 @@ fn refuses(alloc: Global, framework: &Framework, set: &NumSet, number: u32) -> R
     Ok(!accepts)
 }
 
-/// Whether a set is admissible and suits the query.
+/// Whether a set is of the mode and suits the query.
 fn is_suitable(
     alloc: Global,
     framework: &Framework,
     query: &Query,
+    mode: Mode,
     set: &NumSet,
     marks: &mut Marks,
 ) -> Result<bool, Memory>
-    ensures { IfOk result (λ is. IsTrue is ↔ (HoldsOf (framework_of framework.now) set.now Ad
+    ensures { IfOk result (λ is. IsTrue is ↔ (HoldsOf (framework_of framework.now) set.now (mode_atom mode)
         × Suits (framework_of framework.now) query.now.task.problem query.now.number set.now)) }
 {
-    let admissible = is_admissible(alloc, framework, set, marks)?;
-    if !admissible {
+    let has_mode = is_of_mode(alloc, framework, mode, set, marks)?;
+    if !has_mode {
         return Ok(false);
     }
     let suits = suits(alloc, framework, query, set)?;
@@ -108,12 +111,14 @@ fn passes_test(
 {
     match row {
         Row::Tested(_) => Ok(is_suitable_extension(alloc, framework, query, basis, set, marks)?),
-        Row::Largest(_) | Row::Widest(_) => Ok(is_suitable(alloc, framework, query, set, marks)?),
+        Row::Largest(_) => Ok(is_suitable(alloc, framework, query, Mode::Ad, set, marks)?),
+        Row::Widest(mode, _) => Ok(is_suitable(alloc, framework, query, *mode, set, marks)?),
         Row::AllTested(_, _) => {
             let semantics = query.task().semantics;
             Ok(is_extension(alloc, framework, semantics, basis, set, marks)?)
         }
-        Row::AllLargest(_) | Row::AllWidest(_) => Ok(is_admissible(alloc, framework, set, marks)?),
+        Row::AllLargest(_) => Ok(is_admissible(alloc, framework, set, marks)?),
+        Row::AllWidest(mode, _) => Ok(is_of_mode(alloc, framework, *mode, set, marks)?),
         _ => Ok(true),
     }
 }
@@ -146,7 +151,7 @@ pub(crate) fn takes_sets(row: &Row, count: usize) -> bool
     ensures { IsTrue result ↔ TakesSets row.now count }
 {
     match row {
-        Row::Covered(_) | Row::Ranged(_) => true,
+        Row::Covered(_) | Row::Ranged(_, _) => true,
         Row::Ideal(_, _) => 0 < count,
         _ => count == 0,
     }
@@ -221,7 +226,7 @@ impl Checked<'_> {
     {
         match self.row {
             Row::Covered(number) => Ok(covers(alloc, self.framework, set, *number, marks)?),
-            Row::Ranged(_) => Ok(is_admissible(alloc, self.framework, set, marks)?),
+            Row::Ranged(mode, _) => Ok(is_of_mode(alloc, self.framework, *mode, set, marks)?),
             Row::Ideal(shown, says) => {
                 let passes = self.passes_ideal(alloc, shown, *says, index, set, marks)?;
                 Ok(passes)

@@ -15,5 +15,5 @@ pub use axiom::clause_of_axiom;
 pub use certificate::{Certificate, Refutation, Step};
 pub use order::{none_within, sets_rise};
 pub use ranges::{FirstRanged, first_ranged, no_range_within, ranges_of, with_range};
-pub use row::Row;
+pub use row::{Row, mode_atom};
 pub use verdict::{Cause, Verdict};

@@ -1,5 +1,8 @@
 //! The rows of the table of certificates: what an answer of one shape to one task has to show.
 
+ghost use Rattle.std.specs.Prelude.{◌≡◌};
+ghost use Rattle.certificate_claims.specs.Claims.{mode_atom};
+
 use lists::Items;
 use meaning_atoms::{Atom, AtomLit};
 use semantics::Mode;
@@ -36,4 +39,14 @@ pub enum Row {
     /// The sets are of the mode, no range lies in another, each set of the mode has its range in that of one of them,
     /// and no other set of the mode has all of such a range.
     AllWidest(Mode, Items<NumSet>),
+}
+
+/// The atom that says that a set is of the mode.
+pub fn mode_atom(mode: Mode) -> Atom
+    ensures { result ≡ mode_atom mode }
+{
+    match mode {
+        Mode::Cf => Atom::Cf,
+        Mode::Ad => Atom::Ad,
+    }
 }

@@ -8,9 +8,10 @@ use Rattle.std.proofs.lemmas.List.Elements.{Contains-get_or, Contains-push_cases
 use Rattle.lists.proofs.Membership.{Contains-nil}
 use Rattle.lists.specs.Members.{IsWithin}
 use Rattle.semantics.specs.Arguments.{IsArgument}
-use Rattle.semantics.specs.Framework.{Af, IsAdmissible}
+use Rattle.semantics.specs.declared.mode.Mode.{Mode}
+use Rattle.semantics.specs.declared.mode.Mode.TheVariants.{Ad}
+use Rattle.semantics.specs.Framework.{Af}
 use Rattle.semantics.specs.Frameworks.{Framework, af, aba, IsNumbered}
-use Rattle.meaning_atoms.specs.declared.atom.Atom.TheVariants.{Ad}
 use Rattle.meaning_atoms.specs.declared.atom.AtomLit.{AtomLit}
 use Rattle.meaning_atoms.specs.Worlds.{HoldsOf}
 use Rattle.iccma_tasks.specs.declared.answer.Answer.{Answer}
@@ -21,14 +22,15 @@ use Rattle.certificate_claims.specs.declared.certificate.Refutation.{Refutation}
 use Rattle.certificate_claims.specs.declared.row.Row.{Row}
 use Rattle.certificate_claims.specs.declared.row.Row.TheVariants.{Misshapen, Tested, Largest, Widest, Excluded, ByGrounded, Covered, Ranged, Ideal, AllTested, AllLargest, AllWidest}
 use Rattle.certificate_claims.specs.Acceptance.{IsAccepted, PassesSet, PassesTest, TakesSets, Tests, no_claim, no_refutation}
-use Rattle.certificate_claims.specs.Claims.{all_row, all_shown, claims, credulous_row, each_accepts, none_accepts, row_for, row_of, row_where, sceptical_row, sets_of, shown as shown_row, some_row, there_is_none}
+use Rattle.certificate_claims.specs.Claims.{all_row, all_shown, claims, credulous_row, each_accepts, mode_atom, none_accepts, row_for, row_of, row_where, sceptical_row, sets_of, shown as shown_row, some_row, there_is_none}
 use Rattle.iccma_tasks.specs.declared.answer.Answer.TheVariants.{Yes, No, Sets}
 use Rattle.iccma_tasks.specs.declared.task.Problem.{Problem}
 use Rattle.iccma_tasks.specs.declared.task.Problem.TheVariants.{Credulous, Sceptical, SomeExtension, AllExtensions}
 use Rattle.iccma_tasks.specs.declared.task.Semantics.{Semantics}
-use Rattle.iccma_tasks.specs.declared.task.Semantics.TheVariants.{Complete, Grounded, Preferred, Stable, SemiStable, Ideal as IdealSets}
+use Rattle.iccma_tasks.specs.declared.task.Semantics.TheVariants.{Complete, Grounded, Preferred, Stable, SemiStable, Ideal as IdealSets, Stage}
 use Rattle.certificate_claims.specs.Refutations.{Claim as TableClaim, IsPlain, IsRefutationOf}
-use Rattle.certificate_claims.proofs.KindFacts.{admissible_members, numbered_members}
+use Rattle.certificate_claims.proofs.KindFacts.{numbered_members}
+use Rattle.certificate_claims.proofs.Modes.{mode_members}
 use Rattle.certificate_text.specs.Written.{IsWritable, IsWritableStep}
 use Rattle.oracle_face.specs.Goals.{Refutes}
 use Rattle.oracle_face.specs.Logs.{OracleLog, SideClause, IsLog, IsNumberOf}
@@ -260,10 +262,11 @@ some_part (c ∷ cs) lt = c
 
 -- ---- the sets
 
-admissible_arguments : (f : Framework) (e : List ℕ) → IsNumbered f → HoldsOf f e Ad → HasArguments e
-admissible_arguments f e numbered holds = λ k d lt.
+mode_arguments : (mode : Mode) (f : Framework) (e : List ℕ) → IsNumbered f → HoldsOf f e (mode_atom mode)
+    → HasArguments e
+mode_arguments mode f e numbered holds = λ k d lt.
     numbered_members f numbered (slice_index_or e k d)
-    (admissible_members f e holds (slice_index_or e k d) (k, lt, get_or_default e k (slice_index_or e k d) d lt))
+    (mode_members mode f e holds (slice_index_or e k d) (k, lt, get_or_default e k (slice_index_or e k d) d lt))
 
 no_set : (sets : List (List ℕ)) (k : ℕ) → length sets ≡ 0 → k < length sets → ⊥
 no_set sets k none lt = omega arith
@@ -272,22 +275,22 @@ set_arguments : (f : Framework) (asked : Asked) (row : Row) (sets : List (List �
     → TakesSets row (length sets) → k < length sets → PassesSet f asked row k (slice_index_or sets k [])
     → HasArguments (slice_index_or sets k [])
 set_arguments f asked (Covered q) sets k numbered takes lt passes =
-    admissible_arguments f (slice_index_or sets k []) numbered passes.0
-set_arguments f asked (Ranged bad) sets k numbered takes lt passes =
-    admissible_arguments f (slice_index_or sets k []) numbered passes
+    mode_arguments Ad f (slice_index_or sets k []) numbered passes.0
+set_arguments f asked (Ranged mode bad) sets k numbered takes lt passes =
+    mode_arguments mode f (slice_index_or sets k []) numbered passes
 set_arguments f asked (Ideal shown accepts) sets zero numbered takes lt passes =
-    admissible_arguments f (slice_index_or sets 0 []) numbered passes.0
+    mode_arguments Ad f (slice_index_or sets 0 []) numbered passes.0
 set_arguments f asked (Ideal shown accepts) sets (suc k) numbered takes lt passes =
-    admissible_arguments f (slice_index_or sets (suc k) []) numbered passes
+    mode_arguments Ad f (slice_index_or sets (suc k) []) numbered passes
 set_arguments f asked Misshapen sets k numbered takes lt passes = absurd (no_set sets k takes lt)
 set_arguments f asked (Tested e) sets k numbered takes lt passes = absurd (no_set sets k takes lt)
 set_arguments f asked (Largest e) sets k numbered takes lt passes = absurd (no_set sets k takes lt)
-set_arguments f asked (Widest e) sets k numbered takes lt passes = absurd (no_set sets k takes lt)
+set_arguments f asked (Widest mode e) sets k numbered takes lt passes = absurd (no_set sets k takes lt)
 set_arguments f asked (Excluded goals) sets k numbered takes lt passes = absurd (no_set sets k takes lt)
 set_arguments f asked (ByGrounded accepts) sets k numbered takes lt passes = absurd (no_set sets k takes lt)
 set_arguments f asked (AllTested mode all) sets k numbered takes lt passes = absurd (no_set sets k takes lt)
 set_arguments f asked (AllLargest all) sets k numbered takes lt passes = absurd (no_set sets k takes lt)
-set_arguments f asked (AllWidest all) sets k numbered takes lt passes = absurd (no_set sets k takes lt)
+set_arguments f asked (AllWidest mode all) sets k numbered takes lt passes = absurd (no_set sets k takes lt)
 
 sets_default : (xs : List (List ℕ)) (i : ℕ) (d e : List ℕ) → i < length xs
     → slice_index_or xs i d ≡ slice_index_or xs i e
@@ -343,16 +346,17 @@ module _ (f : Framework) (asked : Asked) (answer : Answer) (log : OracleLog) (se
       made_default (x ∷ xs) (suc i) d e h = made_default xs i d e (omega arith)
 
 -- a row whose sets are all the extensions by their ranges has the sets that the answer shows, and is one of answers by
--- semi-stable sets
+-- semi-stable or stage sets
 abbrev IsOfShown : Row → Semantics → List (List ℕ) → Type 0
-IsOfShown (AllWidest all) SemiStable shown = all ≡ shown
-IsOfShown (AllWidest all) _ shown = ⊥
+IsOfShown (AllWidest mode all) SemiStable shown = all ≡ shown
+IsOfShown (AllWidest mode all) Stage shown = all ≡ shown
+IsOfShown (AllWidest mode all) _ shown = ⊥
 IsOfShown _ semantics shown = Unit {0}
 
 -- and one of answers on abstract frameworks
 abbrev IsShownIn : Row → Framework → List (List ℕ) → Type 0
-IsShownIn (AllWidest all) (af f) shown = all ≡ shown
-IsShownIn (AllWidest all) (aba f) shown = ⊥
+IsShownIn (AllWidest mode all) (af f) shown = all ≡ shown
+IsShownIn (AllWidest mode all) (aba f) shown = ⊥
 IsShownIn _ f shown = Unit {0}
 
 shown_of : (semantics : Semantics) (e shown : List ℕ) (listed : List (List ℕ)) (accepts : Option Bool)
@@ -363,6 +367,7 @@ shown_of Preferred e shown listed accepts = tt
 shown_of Stable e shown listed accepts = tt
 shown_of SemiStable e shown listed accepts = tt
 shown_of IdealSets e shown listed accepts = tt
+shown_of Stage e shown listed accepts = tt
 
 none_of : (f : Framework) (semantics : Semantics) (q : ℕ) (listed : List (List ℕ))
     → IsOfShown (none_accepts f semantics q) semantics listed
@@ -372,6 +377,7 @@ none_of f Preferred q listed = tt
 none_of f Stable q listed = tt
 none_of f SemiStable q listed = tt
 none_of f IdealSets q listed = tt
+none_of f Stage q listed = tt
 
 each_of : (f : Framework) (semantics : Semantics) (q : ℕ) (listed : List (List ℕ))
     → IsOfShown (each_accepts f semantics q) semantics listed
@@ -381,6 +387,7 @@ each_of f Preferred q listed = tt
 each_of f Stable q listed = tt
 each_of f SemiStable q listed = tt
 each_of f IdealSets q listed = tt
+each_of f Stage q listed = tt
 
 no_of : (semantics : Semantics) (listed : List (List ℕ)) → IsOfShown (there_is_none semantics) semantics listed
 no_of Complete listed = tt
@@ -389,6 +396,7 @@ no_of Preferred listed = tt
 no_of Stable listed = tt
 no_of SemiStable listed = tt
 no_of IdealSets listed = tt
+no_of Stage listed = tt
 
 all_of : (semantics : Semantics) (sets : List (List ℕ)) → IsOfShown (all_shown semantics sets) semantics sets
 all_of Complete sets = tt
@@ -397,6 +405,7 @@ all_of Preferred sets = tt
 all_of Stable sets = tt
 all_of SemiStable sets = refl
 all_of IdealSets sets = tt
+all_of Stage sets = refl
 
 credulous_of : (f : Framework) (semantics : Semantics) (q : ℕ) (answer : Answer)
     → IsOfShown (credulous_row f semantics q answer) semantics (sets_of answer)
@@ -441,33 +450,36 @@ row_of_shown f SomeExtension semantics (Some q) answer = tt
 row_of_shown f AllExtensions semantics None answer = all_row_of semantics answer
 row_of_shown f AllExtensions semantics (Some q) answer = tt
 
--- answers on assumption-based frameworks have no row by semi-stable sets
+-- answers on assumption-based frameworks have no row by semi-stable and stage sets
 where_shown : (semantics : Semantics) (f : Framework) (row : Row) (shown : List (List ℕ))
     → IsOfShown row semantics shown
     → IsShownIn (row_where semantics f row) f shown
-where_shown SemiStable (af f) (AllWidest all) shown h = h
+where_shown SemiStable (af f) (AllWidest mode all) shown h = h
 where_shown SemiStable (af f) _ shown h = tt
 where_shown SemiStable (aba f) row shown h = tt
+where_shown Stage (af f) (AllWidest mode all) shown h = h
+where_shown Stage (af f) _ shown h = tt
+where_shown Stage (aba f) row shown h = tt
 where_shown IdealSets (aba f) row shown h = tt
-where_shown _ f (AllWidest all) shown h = absurd h
+where_shown _ f (AllWidest mode all) shown h = absurd h
 where_shown _ f _ shown h = tt
 
 tested_within : (f : Framework) (asked : Asked) (row : Row) (shown : List (List ℕ)) → IsShownIn row f shown
     → ((k : ℕ) → k < length shown → PassesTest f asked row (slice_index_or shown k [])) → HasSetsOf f row
-tested_within (aba f) asked (AllWidest all) shown same passes = absurd same
-tested_within (af f) asked (AllWidest all) shown same passes = λ s there.
+tested_within (aba f) asked (AllWidest mode all) shown same passes = absurd same
+tested_within (af f) asked (AllWidest mode all) shown same passes = λ s there.
     let lt : there.0 < length shown = subst (λ list. there.0 < length list) same there.1 in
     subst (λ x. IsWithin x f.live)
     (sets_default shown there.0 [] s lt ∙ ap (λ list. slice_index_or list there.0 s) (sym same) ∙ there.2)
-    (admissible_members (af f) (slice_index_or shown there.0 []) (passes there.0 lt))
+    (mode_members mode (af f) (slice_index_or shown there.0 []) (passes there.0 lt))
 tested_within f asked Misshapen shown same passes = tt
 tested_within f asked (Tested e) shown same passes = tt
 tested_within f asked (Largest e) shown same passes = tt
-tested_within f asked (Widest e) shown same passes = tt
+tested_within f asked (Widest mode e) shown same passes = tt
 tested_within f asked (Excluded goals) shown same passes = tt
 tested_within f asked (ByGrounded says) shown same passes = tt
 tested_within f asked (Covered q) shown same passes = tt
-tested_within f asked (Ranged bad) shown same passes = tt
+tested_within f asked (Ranged mode bad) shown same passes = tt
 tested_within f asked (Ideal e says) shown same passes = tt
 tested_within f asked (AllTested mode sets) shown same passes = tt
 tested_within f asked (AllLargest sets) shown same passes = tt

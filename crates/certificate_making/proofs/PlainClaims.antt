@@ -2,6 +2,7 @@
 use Rattle.std.proofs.Common.{⊎_elim, ℕ, Bool, true, false, List, [], ◌∷◌, ◌++◌, map, filter, subst}
 use Rattle.std.specs.Prelude.{Contains, Option, Some, None}
 use Rattle.lists.proofs.Membership.{Contains-nil, Contains-cons_cases}
+use Rattle.semantics.specs.declared.mode.Mode.{Mode}
 use Rattle.semantics.specs.Frameworks.{Framework, af, aba}
 use Rattle.meaning_atoms.specs.declared.atom.Atom.{Atom}
 use Rattle.meaning_atoms.specs.declared.atom.Atom.TheVariants.{Ad, St}
@@ -14,13 +15,14 @@ use Rattle.iccma_tasks.specs.declared.task.Problem.{Problem}
 use Rattle.iccma_tasks.specs.declared.task.Problem.TheVariants.{Credulous, Sceptical, SomeExtension, AllExtensions}
 use Rattle.iccma_tasks.specs.declared.task.Semantics.{Semantics}
 use Rattle.iccma_tasks.specs.declared.task.Semantics.TheVariants.{Complete, Grounded, Preferred, Stable, SemiStable}
-use Rattle.iccma_tasks.specs.declared.task.Semantics.TheVariants.{Ideal as IdealSets}
+use Rattle.iccma_tasks.specs.declared.task.Semantics.TheVariants.{Ideal as IdealSets, Stage}
 use Rattle.iccma_tasks.specs.Tasks.{Asked}
 use Rattle.certificate_claims.specs.declared.row.Row.{Row}
 use Rattle.certificate_claims.specs.declared.row.Row.TheVariants.{Largest, Widest, Excluded, Covered, Ranged, Ideal}
 use Rattle.certificate_claims.specs.declared.row.Row.TheVariants.{AllTested, AllLargest, AllWidest}
 use Rattle.certificate_claims.specs.Claims.{all_row, all_shown, claim_of, claims, credulous_row, each_accepts}
-use Rattle.certificate_claims.specs.Claims.{first_ranged, ideal_claims, none_accepts, range_cover, range_free}
+use Rattle.certificate_claims.specs.Claims.{first_ranged, ideal_claims, mode_atom, none_accepts, range_cover}
+use Rattle.certificate_claims.specs.Claims.{range_free, range_widest}
 use Rattle.certificate_claims.specs.Claims.{range_listed, row_for, row_where, row_of, sceptical_row, shown, some_row}
 use Rattle.certificate_claims.specs.Claims.{there_is_none}
 use Rattle.certificate_claims.specs.Refutations.{Claim, IsPlain}
@@ -31,6 +33,7 @@ use Rattle.certificate_claims.proofs.SideClauses.{attacked_plain, differs_plain,
 use Rattle.certificate_claims.proofs.SideClauses.{ranged_plain, wider_plain}
 use Rattle.lists.proofs.Images.{image_from}
 use Rattle.certificate_claims.proofs.KindFacts.{goal_asks_nothing}
+use Rattle.certificate_claims.proofs.Modes.{mode_plain}
 
 abbrev AllPlain : List Claim → Type 0
 AllPlain list = (claim : Claim) → Contains list claim → IsPlain claim
@@ -58,25 +61,26 @@ with_mode mode rest none more = asks_cons (affirmed mode) rest none more
 -- what a row says itself asks for no side clause
 abbrev IsPlainRow : Row → Type 0
 IsPlainRow (Excluded goals) = AsksNothing goals
-IsPlainRow (Ranged bad) = IsAsk bad.atom → ⊥
+IsPlainRow (Ranged mode bad) = IsAsk bad.atom → ⊥
 IsPlainRow (AllTested mode sets) = IsAsk mode → ⊥
 IsPlainRow _ = Unit {0}
 
-cover_plain : (f : Framework) (goals : List AtomLit) (sets : List (List ℕ)) → AsksNothing goals
-    → IsPlain (range_cover f goals sets)
-cover_plain f goals sets plain =
-    plain_mapped (affirmed Ad ∷ goals) (wider f) sets (with_mode Ad goals (λ ask. ask) plain) (wider_plain f)
+cover_plain : (f : Framework) (mode : Mode) (goals : List AtomLit) (sets : List (List ℕ)) → AsksNothing goals
+    → IsPlain (range_cover f mode goals sets)
+cover_plain f mode goals sets plain =
+    plain_mapped (affirmed (mode_atom mode) ∷ goals) (wider f) sets (mode_plain mode goals plain) (wider_plain f)
 
-free_plain : (f : Framework) (bad : AtomLit) → (IsAsk bad.atom → ⊥) → (e : List ℕ) → IsPlain (range_free f bad e)
-free_plain f bad none e =
-    plain_mapped (affirmed Ad ∷ bad ∷ are_ranged (range_of f e)) (outside f) []
-    (with_mode Ad (bad ∷ are_ranged (range_of f e)) (λ ask. ask)
+free_plain : (f : Framework) (mode : Mode) (bad : AtomLit) → (IsAsk bad.atom → ⊥) → (e : List ℕ)
+    → IsPlain (range_free f mode bad e)
+free_plain f mode bad none e =
+    plain_mapped (affirmed (mode_atom mode) ∷ bad ∷ are_ranged (range_of f e)) (outside f) []
+    (mode_plain mode (bad ∷ are_ranged (range_of f e))
     (asks_cons bad (are_ranged (range_of f e)) none (ranged_plain (range_of f e)))) (outside_plain f)
 
-listed_plain : (f : Framework) (all : List (List ℕ)) (e : List ℕ) → IsPlain (range_listed f all e)
-listed_plain f all e =
-    plain_mapped (affirmed Ad ∷ are_ranged (range_of f e)) (differs f) (filter (same_range f e) all)
-    (with_mode Ad (are_ranged (range_of f e)) (λ ask. ask) (ranged_plain (range_of f e))) (differs_plain f)
+listed_plain : (f : Framework) (mode : Mode) (all : List (List ℕ)) (e : List ℕ) → IsPlain (range_listed f mode all e)
+listed_plain f mode all e =
+    plain_mapped (affirmed (mode_atom mode) ∷ are_ranged (range_of f e)) (differs f) (filter (same_range f e) all)
+    (mode_plain mode (are_ranged (range_of f e)) (ranged_plain (range_of f e))) (differs_plain f)
 
 ideal_plain : (f : Framework) (sets : List (List ℕ)) → AllPlain (ideal_claims f sets)
 ideal_plain f [] = plain_nil
@@ -95,10 +99,9 @@ row_claims : (f : Framework) (row : Row) (sets : List (List ℕ)) → IsPlainRow
 row_claims f (Largest e) sets plain = plain_cons (claim_of (affirmed Ad ∷ are_in e) (outside f e ∷ [])) []
     (plain_mapped (affirmed Ad ∷ are_in e) (outside f) (e ∷ []) (with_mode Ad (are_in e) (λ ask. ask) (in_plain e))
     (outside_plain f)) plain_nil
-row_claims f (Widest e) sets plain =
-    plain_cons (claim_of (affirmed Ad ∷ are_ranged (range_of f e)) (wider f e ∷ [])) []
-    (plain_mapped (affirmed Ad ∷ are_ranged (range_of f e)) (wider f) (e ∷ [])
-    (with_mode Ad (are_ranged (range_of f e)) (λ ask. ask) (ranged_plain (range_of f e))) (wider_plain f)) plain_nil
+row_claims f (Widest mode e) sets plain = plain_cons (range_widest f mode e) []
+    (plain_mapped (affirmed (mode_atom mode) ∷ are_ranged (range_of f e)) (wider f) (e ∷ [])
+    (mode_plain mode (are_ranged (range_of f e)) (ranged_plain (range_of f e))) (wider_plain f)) plain_nil
 row_claims f (Excluded goals) sets plain = plain_cons (claim_of goals []) []
     (plain_mapped goals (outside f) [] plain (outside_plain f)) plain_nil
 row_claims f (Covered q) sets plain =
@@ -106,10 +109,10 @@ row_claims f (Covered q) sets plain =
     (plain_mapped (affirmed Ad ∷ negated (goal f q) ∷ []) (outside f) sets
     (with_mode Ad (negated (goal f q) ∷ []) (λ ask. ask)
     (asks_cons (negated (goal f q)) [] (goal_asks_nothing f q) asks_nil)) (outside_plain f)) plain_nil
-row_claims f (Ranged bad) sets plain =
-    plain_cons (range_cover f (bad ∷ []) sets) (map (range_free f bad) sets)
-    (cover_plain f (bad ∷ []) sets (asks_cons bad [] plain asks_nil))
-    (plain_each (range_free f bad) sets (free_plain f bad plain))
+row_claims f (Ranged mode bad) sets plain =
+    plain_cons (range_cover f mode (bad ∷ []) sets) (map (range_free f mode bad) sets)
+    (cover_plain f mode (bad ∷ []) sets (asks_cons bad [] plain asks_nil))
+    (plain_each (range_free f mode bad) sets (free_plain f mode bad plain))
 row_claims f (Ideal said accepts) sets plain = ideal_plain f sets
 row_claims f (AllTested mode all) sets plain =
     plain_cons (claim_of (affirmed mode ∷ []) (map (differs f) all)) []
@@ -118,10 +121,10 @@ row_claims f (AllLargest all) sets plain =
     plain_cons (claim_of (affirmed Ad ∷ []) (map (outside f) all)) []
     (plain_mapped (affirmed Ad ∷ []) (outside f) all (with_mode Ad [] (λ ask. ask) asks_nil) (outside_plain f))
     plain_nil
-row_claims f (AllWidest all) sets plain =
-    plain_cons (range_cover f [] (first_ranged f all)) (map (range_listed f all) (first_ranged f all))
-    (cover_plain f [] (first_ranged f all) asks_nil)
-    (plain_each (range_listed f all) (first_ranged f all) (listed_plain f all))
+row_claims f (AllWidest mode all) sets plain =
+    plain_cons (range_cover f mode [] (first_ranged f all)) (map (range_listed f mode all) (first_ranged f all))
+    (cover_plain f mode [] (first_ranged f all) asks_nil)
+    (plain_each (range_listed f mode all) (first_ranged f all) (listed_plain f mode all))
 row_claims f _ sets plain = plain_nil
 
 -- ---- the rows of answers
@@ -133,6 +136,7 @@ shown_plain Preferred e accepts = tt
 shown_plain Stable e accepts = tt
 shown_plain SemiStable e accepts = tt
 shown_plain IdealSets e accepts = tt
+shown_plain Stage e accepts = tt
 
 -- a mode and one literal
 two_plain : (mode : Atom) (l : AtomLit) → (IsAsk mode → ⊥) → (IsAsk l.atom → ⊥)
@@ -146,6 +150,7 @@ none_plain f Preferred q = two_plain Ad (goal f q) (λ ask. ask) (goal_asks_noth
 none_plain f Stable q = two_plain St (goal f q) (λ ask. ask) (goal_asks_nothing f q)
 none_plain f SemiStable q = goal_asks_nothing f q
 none_plain f IdealSets q = tt
+none_plain f Stage q = goal_asks_nothing f q
 
 each_plain : (f : Framework) (semantics : Semantics) (q : ℕ) → IsPlainRow (each_accepts f semantics q)
 each_plain f Complete q = tt
@@ -154,6 +159,7 @@ each_plain f Preferred q = tt
 each_plain f Stable q = two_plain St (negated (goal f q)) (λ ask. ask) (goal_asks_nothing f q)
 each_plain f SemiStable q = goal_asks_nothing f q
 each_plain f IdealSets q = tt
+each_plain f Stage q = goal_asks_nothing f q
 
 no_extension_plain : (semantics : Semantics) → IsPlainRow (there_is_none semantics)
 no_extension_plain Stable = with_mode St [] (λ ask. ask) asks_nil
@@ -196,13 +202,15 @@ row_plain f SomeExtension semantics None answer = some_plain semantics answer
 row_plain f AllExtensions semantics None answer = all_row_plain semantics answer
 row_plain f _ semantics _ answer = tt
 
--- answers on assumption-based frameworks have no row by semi-stable and by ideal sets
+-- answers on assumption-based frameworks have no row by semi-stable, ideal and stage sets
 where_plain : (semantics : Semantics) (f : Framework) (row : Row) → IsPlainRow row
     → IsPlainRow (row_where semantics f row)
 where_plain SemiStable (af f) row plain = plain
 where_plain SemiStable (aba f) row plain = tt
 where_plain IdealSets (af f) row plain = plain
 where_plain IdealSets (aba f) row plain = tt
+where_plain Stage (af f) row plain = plain
+where_plain Stage (aba f) row plain = tt
 where_plain _ f row plain = plain
 
 -- each claim of an answer asks for no side clause

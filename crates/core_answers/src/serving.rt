@@ -2,14 +2,14 @@
 
 ghost use Rattle.std.specs.Prelude.{◌≡◌, ◌↔◌, ◌≤◌, ◌<◌, ℕ, List, count_by, length, map, slice_index_or, take, true, IfOk, IsTrue};
 ghost use Rattle.semantics.specs.Frameworks.{Framework as AnyFramework};
-ghost use Rattle.meaning_atoms.specs.declared.atom.Atom.TheVariants.{Ad};
+ghost use Rattle.meaning_atoms.specs.declared.atom.Atom.TheVariants.{Cf, Ad};
 ghost use Rattle.meaning_atoms.specs.declared.axiom.AxiomName.{AxiomName as AnAxiomName};
 ghost use Rattle.meaning_atoms.specs.AxiomNames.{IsAxiomName};
 ghost use Rattle.meaning_atoms.specs.Worlds.{HoldsOf};
 ghost use Rattle.certificate_claims.specs.Refutations.{axiom_clause};
 ghost use Rattle.edit_rules.specs.Kinds.{framework_of};
 ghost use Rattle.oracle_face.specs.Logs.{IsSameClause, OracleLog, by_axiom, is_loop, is_unit};
-ghost use Rattle.session_log.specs.Ends.{IsTakenByNone, LoopInHand, SideServes, sides_for};
+ghost use Rattle.session_log.specs.Ends.{IsTakenByNone, LoopInHand, SideServes, side_mode, sides_for};
 ghost use Rattle.answer_claims.specs.SideClauses.{side_of};
 ghost use Rattle.core_logs.specs.Sources.{source_of};
 ghost use Rattle.core_logs.specs.Tests.{AreNamed};
@@ -197,7 +197,33 @@ fn is_admissible(alloc: Global, framework: &Framework, set: &NumSet) -> Result<b
     }
 }
 
-/// Whether a side clause serves a query: the table has it for the query, made from this set, which is admissible.
+/// Whether a set is conflict-free.
+fn is_conflict_free(alloc: Global, framework: &Framework, set: &NumSet) -> Result<bool, Memory>
+    ensures { IfOk result (λ is. IsTrue is ↔ HoldsOf (framework_of framework.now) set.now Cf) }
+{
+    match framework {
+        Framework::Af(plain) => Ok(plain.is_conflict_free(set)),
+        Framework::Aba(plain) => Ok(plain.is_conflict_free(alloc, set)?),
+    }
+}
+
+/// Whether a set is one that side clauses for a query by the semantics are made from.
+fn may_make_sides(
+    alloc: Global,
+    framework: &Framework,
+    semantics: Semantics,
+    set: &NumSet,
+) -> Result<bool, Memory>
+    ensures { IfOk result (λ may. IsTrue may ↔ HoldsOf (framework_of framework.now) set.now (side_mode semantics)) }
+{
+    match semantics {
+        Semantics::Stage => is_conflict_free(alloc, framework, set),
+        _ => is_admissible(alloc, framework, set),
+    }
+}
+
+/// Whether a side clause serves a query: the table has it for the query, made from this set, which is admissible, or for a
+/// query by stage sets conflict-free.
 pub(crate) fn side_serves(
     alloc: Global,
     framework: &Framework,
@@ -208,13 +234,14 @@ pub(crate) fn side_serves(
     ensures { IfOk result (λ serves. IsTrue serves
         ↔ SideServes (framework_of framework.now) query.now literals.now set.now) }
 {
-    let kinds = kinds_for(query.task().problem, query.task().semantics);
+    let task = query.task();
+    let kinds = kinds_for(task.problem, task.semantics);
     let made = is_made_as_any(alloc, framework, kinds, literals, set)?;
     if !made {
         return Ok(false);
     }
-    let admissible = is_admissible(alloc, framework, set)?;
-    Ok(admissible)
+    let may = may_make_sides(alloc, framework, task.semantics, set)?;
+    Ok(may)
 }
 
 /// Whether each side clause from an index on does.

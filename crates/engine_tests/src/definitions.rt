@@ -25,22 +25,26 @@ const TASKS: &[(&str, u32, u32)] = &[
     ("SE-ST", 0, 1),
     ("SE-SST", 0, 1),
     ("SE-ID", 0, 1),
+    ("SE-STG", 0, 1),
     ("EE-CO", 0, 1),
     ("EE-PR", 0, 1),
     ("EE-ST", 0, 1),
     ("EE-SST", 0, 1),
+    ("EE-STG", 0, 1),
     ("DC-CO", 1, 4),
     ("DC-GR", 1, 4),
     ("DC-PR", 1, 4),
     ("DC-ST", 1, 4),
     ("DC-SST", 1, 4),
     ("DC-ID", 1, 4),
+    ("DC-STG", 1, 4),
     ("DS-CO", 1, 4),
     ("DS-GR", 1, 4),
     ("DS-PR", 1, 4),
     ("DS-ST", 1, 4),
     ("DS-SST", 1, 4),
     ("DS-ID", 1, 4),
+    ("DS-STG", 1, 4),
 ];
 
 /// A task with its argument, 0 for none.
@@ -66,6 +70,7 @@ fn notion_of(semantics: Semantics) -> Notion {
         Semantics::Stable => Notion::Stable,
         Semantics::SemiStable => Notion::SemiStable,
         Semantics::Ideal => Notion::Ideal,
+        Semantics::Stage => Notion::Stage,
     }
 }
 

@@ -26,12 +26,27 @@ pub fn is_admissible(
     ensures { IfOk result (λ is. IsTrue is ↔ IsAdmissible plain.now set.now) }
 {
     mark_attacked(alloc, plain, set, marks)?;
-    let apart = is_conflict_free(plain, set, marks);
+    let apart = are_free(plain, set, marks);
     if !apart {
         return Ok(false);
     }
     let defended = defends_itself(plain, set, marks);
     Ok(defended)
+}
+
+/// Whether a set is conflict-free. The time is linear in its members and the attacks that leave them, but for a look-up
+/// of each member among the live arguments.
+pub fn is_conflict_free(
+    alloc: Global,
+    plain: &AfPlain,
+    set: &NumSet,
+    marks: &mut Marks,
+) -> Result<bool, Memory>
+    ensures { IfOk result (λ is. IsTrue is ↔ IsConflictFree plain.now set.now) }
+{
+    mark_attacked(alloc, plain, set, marks)?;
+    let apart = are_free(plain, set, marks);
+    Ok(apart)
 }
 
 /// Whether a set is stable. A stable set and what it attacks are all live arguments, and the time is linear in these
@@ -45,7 +60,7 @@ pub fn is_stable(
     ensures { IfOk result (λ is. IsTrue is ↔ IsStable plain.now set.now) }
 {
     mark_attacked(alloc, plain, set, marks)?;
-    let apart = is_conflict_free(plain, set, marks);
+    let apart = are_free(plain, set, marks);
     if !apart {
         return Ok(false);
     }
@@ -67,7 +82,7 @@ pub fn is_complete(
 {
     let _live = plain.live();
     mark_attacked(alloc, plain, set, marks)?;
-    let apart = is_conflict_free(plain, set, marks);
+    let apart = are_free(plain, set, marks);
     if !apart {
         return Ok(false);
     }
@@ -193,7 +208,7 @@ fn mark_targets(plain: &AfPlain, argument: u32, marks: &mut Marks)
 }
 
 /// Whether the members are live and none is attacked by a member; what the set attacks is marked.
-fn is_conflict_free(plain: &AfPlain, set: &NumSet, attacked: &Marks) -> bool
+fn are_free(plain: &AfPlain, set: &NumSet, attacked: &Marks) -> bool
     requires { AreMarked (IsAttackedBy plain.now set.now) attacked.now }
     ensures { IsTrue result ↔ IsConflictFree plain.now set.now }
 {

@@ -9,7 +9,7 @@ use Rattle.iccma_tasks.specs.declared.answer.Answer.TheVariants.{Yes, No, Sets}
 use Rattle.iccma_tasks.specs.declared.task.Problem.{Problem}
 use Rattle.iccma_tasks.specs.declared.task.Problem.TheVariants.{Credulous, Sceptical, SomeExtension, AllExtensions}
 use Rattle.iccma_tasks.specs.declared.task.Semantics.{Semantics}
-use Rattle.iccma_tasks.specs.declared.task.Semantics.TheVariants.{Complete, Grounded, Preferred, Stable, SemiStable, Ideal}
+use Rattle.iccma_tasks.specs.declared.task.Semantics.TheVariants.{Complete, Grounded, Preferred, Stable, SemiStable, Ideal, Stage}
 use Rattle.iccma_tasks.specs.declared.task.Task.{Task}
 use Rattle.certificate_claims.specs.declared.certificate.Refutation.{Refutation}
 use Rattle.iccma_tasks.specs.Tasks.{Asked, FitsTask, task_of}
@@ -18,7 +18,7 @@ use Rattle.certificate_claims.specs.Acceptance.{GroundedSays, IsAccepted, Passes
 use Rattle.certificate_claims.specs.Claims.{claims, row_of, sets_of}
 use Rattle.certificate_claims.specs.Rights.{Accepts, IsExtension}
 use Rattle.certificate_claims.specs.declared.row.Row.TheVariants.{Tested, ByGrounded}
-use Rattle.certificate_claims.proofs.ExtensionFacts.{extension_admissible, grounded_complete}
+use Rattle.certificate_claims.proofs.ExtensionFacts.{extension_members, grounded_complete}
 use Rattle.certificate_claims.proofs.KindFacts.{admissible_members, numbered_members}
 use Rattle.certificate_claims.proofs.Agreeing.{agrees_with_right}
 use Rattle.certificate_claims.proofs.Right.{accepted_right}
@@ -87,8 +87,7 @@ module _ (f : Framework) (numbered : IsNumbered f) (g : List ℕ) (grounded : Is
 
   arguments : HasArguments g
   arguments = λ k d lt. numbered_members f numbered (slice_index_or g k d)
-      (admissible_members f g (extension_admissible f Grounded g numbered grounded) (slice_index_or g k d)
-      (k, lt, get_again k d lt))
+      (extension_members f Grounded g numbered grounded (slice_index_or g k d) (k, lt, get_again k d lt))
     where
       get_again : (k : ℕ) (d : ℕ) → k < length g → slice_index_or g k (slice_index_or g k d) ≡ slice_index_or g k d
       get_again k d lt = get_or_default g k (slice_index_or g k d) d lt
@@ -149,14 +148,17 @@ module _ (f : Framework) (numbered : IsNumbered f) (g : List ℕ) (grounded : Is
   shows Credulous Stable (Some q) accepts is fits said_so = absurd (true≢false (sym is))
   shows Credulous SemiStable (Some q) accepts is fits said_so = absurd (true≢false (sym is))
   shows Credulous Ideal (Some q) accepts is fits said_so = absurd (true≢false (sym is))
+  shows Credulous Stage (Some q) accepts is fits said_so = absurd (true≢false (sym is))
   shows Sceptical Preferred (Some q) accepts is fits said_so = absurd (true≢false (sym is))
   shows Sceptical Stable (Some q) accepts is fits said_so = absurd (true≢false (sym is))
   shows Sceptical SemiStable (Some q) accepts is fits said_so = absurd (true≢false (sym is))
   shows Sceptical Ideal (Some q) accepts is fits said_so = absurd (true≢false (sym is))
+  shows Sceptical Stage (Some q) accepts is fits said_so = absurd (true≢false (sym is))
   shows SomeExtension Preferred None accepts is fits said_so = absurd (true≢false (sym is))
   shows SomeExtension Stable None accepts is fits said_so = absurd (true≢false (sym is))
   shows SomeExtension SemiStable None accepts is fits said_so = absurd (true≢false (sym is))
   shows SomeExtension Ideal None accepts is fits said_so = absurd (true≢false (sym is))
+  shows SomeExtension Stage None accepts is fits said_so = absurd (true≢false (sym is))
 
 -- the answer to such a problem about a number, where the grounded set accepts it or doesn't
 pub answer_said : (f : Framework) (problem kind : Problem) (number : Option ℕ) (q : ℕ) (g : List ℕ) (accepts : Bool)

@@ -15,7 +15,7 @@ use Rattle.certificate_claims.specs.declared.certificate.Certificate.{Certificat
 use Rattle.certificate_claims.specs.Acceptance.{IsAccepted}
 use Rattle.certificate_claims.specs.Rights.{IsExtension, IsRightOf}
 use Rattle.certificate_text.specs.Written.{IsWritable}
-use Rattle.certificate_claims.proofs.ExtensionFacts.{extension_admissible}
+use Rattle.certificate_claims.proofs.ExtensionFacts.{extension_members}
 use Rattle.certificate_claims.proofs.KindFacts.{admissible_members, numbered_members}
 use Rattle.certificate_claims.proofs.Agreeing.{agrees_with_right}
 use Rattle.certificate_claims.proofs.Right.{accepted_right}
@@ -32,7 +32,7 @@ module _ (f : Framework) (numbered : IsNumbered f) (semantics : Semantics) where
   -- extensions are of the framework's numbers
   arguments : (e : List ℕ) → IsExtension f semantics e → HasArguments e
   arguments e h = λ k d lt. numbered_members f numbered (slice_index_or e k d)
-      (admissible_members f e (extension_admissible f semantics e numbered h) (slice_index_or e k d) (stands e k d lt))
+      (extension_members f semantics e numbered h (slice_index_or e k d) (stands e k d lt))
 
   all_arguments : (sets : List (List ℕ)) → ((e : List ℕ) → Contains sets e → IsExtension f semantics e)
       → All HasArguments sets

@@ -1,25 +1,28 @@
-use Rattle.std.proofs.Common.{◌≡◌, ⊎_elim, ℕ, ◌≤◌, List, [], ◌∷◌, refl, sym, subst, arith}
+use Rattle.std.proofs.Common.{◌≡◌, ◌⊎◌, ⊎_elim, ℕ, ◌≤◌, List, [], ◌∷◌, refl, sym, ap, subst, arith}
 use Rattle.std.specs.Prelude.{Contains, Option, None, Result, Ok, Err}
 use Rattle.lists.proofs.Membership.{Contains-head, Contains-tail}
 use Rattle.plain_lits.specs.declared.halt.Halt.{Halt}
 use Rattle.plain_lits.specs.declared.halt.Halt.TheVariants.{Memory}
 use Rattle.plain_lits.specs.Units.{Units}
+use Rattle.semantics.specs.declared.mode.Mode.{Mode}
+use Rattle.semantics.specs.declared.mode.Mode.TheVariants.{Cf, Ad}
 use Rattle.semantics.specs.Frameworks.{Framework}
-use Rattle.meaning_atoms.specs.declared.atom.Atom.TheVariants.{Ad}
 use Rattle.meaning_atoms.specs.declared.atom.AtomLit.{AtomLit}
 use Rattle.meaning_atoms.specs.Worlds.{HoldsOf}
 use Rattle.iccma_tasks.specs.declared.task.Problem.{Problem}
 use Rattle.iccma_tasks.specs.declared.task.Problem.TheVariants.{Credulous, Sceptical, SomeExtension, AllExtensions}
 use Rattle.iccma_tasks.specs.declared.task.Semantics.{Semantics}
-use Rattle.iccma_tasks.specs.declared.task.Semantics.TheVariants.{Complete, Preferred, Stable, SemiStable, Ideal}
-use Rattle.iccma_tasks.specs.Tasks.{Asked}
+use Rattle.iccma_tasks.specs.declared.task.Semantics.TheVariants.{Complete, Preferred, Stable, SemiStable, Ideal, Stage}
+use Rattle.iccma_tasks.specs.declared.task.Task.{Task}
+use Rattle.iccma_tasks.specs.Tasks.{Asked, task_of}
+use Rattle.certificate_claims.specs.Claims.{mode_atom, widest_semantics}
 use Rattle.certificate_claims.specs.SetLiterals.{attacked, differs, outside, wider}
 use Rattle.oracle_face.specs.declared.face.Found.{Found}
 use Rattle.oracle_face.specs.declared.face.Found.TheVariants.{Set, Refuted}
 use Rattle.oracle_face.specs.Growing.{Making, closes, halt_of}
 use Rattle.oracle_face.specs.Logs.{IsSameClause}
 use Rattle.oracle_face.proofs.GrowingLemmas.{Makes}
-use Rattle.session_log.specs.Ends.{MadeFor, sides_for}
+use Rattle.session_log.specs.Ends.{MadeFor, side_mode, sides_for}
 use Rattle.goal_lists.proofs.Calls.{closes_set, makes_none}
 use Rattle.enumerate_block.specs.cegar_preferred.specs.Largest.{MadeOutside}
 use Rattle.enumerate_block.specs.semi_stable.specs.Widest.{MadeWider}
@@ -37,14 +40,14 @@ use Rattle.enumerate_block.specs.Extensions.{MadeForAll}
 
 serves : (f : Framework) (asked : Asked) (problem : Problem) (semantics : Semantics) (literals : List AtomLit)
     (set : List ℕ) (side : List AtomLit) → asked.task.problem ≡ problem → asked.task.semantics ≡ semantics
-    → Contains (sides_for f problem semantics set) side → IsSameClause literals side → HoldsOf f set Ad
-    → MadeFor f asked literals set
+    → Contains (sides_for f problem semantics set) side → IsSameClause literals side
+    → HoldsOf f set (side_mode semantics) → MadeFor f asked literals set
 serves f asked problem semantics literals set side left right listed same ok = record {
   side = side;
   listed = subst (λ (p : Problem). Contains (sides_for f p asked.task.semantics set) side) (sym left)
       (subst (λ (s : Semantics). Contains (sides_for f problem s set) side) (sym right) listed);
   same = same;
-  admissible = ok;
+  has_mode = subst (λ (s : Semantics). HoldsOf f set (side_mode s)) (sym right) ok;
 }
 
 first_side : (one : List AtomLit) (more : List (List AtomLit)) → Contains (one ∷ more) one
@@ -59,11 +62,27 @@ in_largest f Sceptical e = first_side (outside f e) []
 in_largest f SomeExtension e = first_side (outside f e) []
 in_largest f AllExtensions e = first_side (outside f e) []
 
-in_widest : (f : Framework) (problem : Problem) (e : List ℕ) → Contains (sides_for f problem SemiStable e) (wider f e)
-in_widest f Credulous e = first_side (wider f e) []
-in_widest f Sceptical e = first_side (wider f e) []
-in_widest f SomeExtension e = first_side (wider f e) []
-in_widest f AllExtensions e = first_side (wider f e) (differs f e ∷ [])
+in_widest : (mode : Mode) (f : Framework) (problem : Problem) (e : List ℕ)
+    → Contains (sides_for f problem (widest_semantics mode) e) (wider f e)
+in_widest Cf f Credulous e = first_side (wider f e) []
+in_widest Cf f Sceptical e = first_side (wider f e) []
+in_widest Cf f SomeExtension e = first_side (wider f e) []
+in_widest Cf f AllExtensions e = first_side (wider f e) (differs f e ∷ [])
+in_widest Ad f Credulous e = first_side (wider f e) []
+in_widest Ad f Sceptical e = first_side (wider f e) []
+in_widest Ad f SomeExtension e = first_side (wider f e) []
+in_widest Ad f AllExtensions e = first_side (wider f e) (differs f e ∷ [])
+
+differs_widest : (mode : Mode) (f : Framework) (e : List ℕ)
+    → Contains (sides_for f AllExtensions (widest_semantics mode) e) (differs f e)
+differs_widest Cf f e = second_side (wider f e) (differs f e)
+differs_widest Ad f e = second_side (wider f e) (differs f e)
+
+-- the sets of the mode are those that its side clauses are made from
+of_side_mode : (mode : Mode) (f : Framework) (set : List ℕ) → HoldsOf f set (mode_atom mode)
+    → HoldsOf f set (side_mode (widest_semantics mode))
+of_side_mode Cf f set ok = ok
+of_side_mode Ad f set ok = ok
 
 outside_ideal : (f : Framework) (problem : Problem) (e : List ℕ) → Contains (sides_for f problem Ideal e) (outside f e)
 outside_ideal f Credulous e = first_side (outside f e) (attacked f e ∷ [])
@@ -84,11 +103,24 @@ makes_largest f asked is literals set h =
     serves f asked asked.task.problem Preferred literals set (outside f set) refl is
     (in_largest f asked.task.problem set) h.0 h.1
 
-pub makes_widest : (f : Framework) (asked : Asked) → asked.task.semantics ≡ SemiStable
-    → Makes (MadeWider f Ad) (MadeFor f asked)
-makes_widest f asked is literals set h =
-    serves f asked asked.task.problem SemiStable literals set (wider f set) refl is
-    (in_widest f asked.task.problem set) h.1 h.0
+pub makes_widest : (f : Framework) (asked : Asked) (mode : Mode) (problem : Problem)
+    → asked.task ≡ task_of problem (widest_semantics mode) → Makes (MadeWider f mode) (MadeFor f asked)
+makes_widest f asked mode problem is literals set h =
+    serves f asked problem (widest_semantics mode) literals set (wider f set) (ap (λ (t : Task). t.problem) is)
+    (ap (λ (t : Task). t.semantics) is) (in_widest mode f problem set) h.1 (of_side_mode mode f set h.0)
+
+-- a list by ranges makes two side clauses of a set
+ranged_sides : (f : Framework) (asked : Asked) (mode : Mode) → asked.task.problem ≡ AllExtensions
+    → asked.task.semantics ≡ widest_semantics mode → (literals : List AtomLit) (set : List ℕ)
+    → HoldsOf f set (mode_atom mode) × (IsSameClause literals (wider f set) ⊎ IsSameClause literals (differs f set))
+    → MadeFor f asked literals set
+ranged_sides f asked mode all is literals set h =
+    ⊎_elim
+    (λ same. serves f asked AllExtensions (widest_semantics mode) literals set (wider f set) all is
+    (in_widest mode f AllExtensions set) same (of_side_mode mode f set h.0))
+    (λ same. serves f asked AllExtensions (widest_semantics mode) literals set (differs f set) all is
+    (differs_widest mode f set) same (of_side_mode mode f set h.0))
+    h.1
 
 pub makes_ideal : (f : Framework) (asked : Asked) → asked.task.semantics ≡ Ideal
     → Makes (MadeForIdeal f) (MadeFor f asked)
@@ -108,13 +140,8 @@ all_sides f asked all Stable is literals set h =
     serves f asked AllExtensions Stable literals set (differs f set) all is (first_side (differs f set) []) h.1 h.0
 all_sides f asked all Preferred is literals set h =
     serves f asked AllExtensions Preferred literals set (outside f set) all is (first_side (outside f set) []) h.1 h.0
-all_sides f asked all SemiStable is literals set h =
-    ⊎_elim
-    (λ same. serves f asked AllExtensions SemiStable literals set (wider f set) all is
-    (first_side (wider f set) (differs f set ∷ [])) same h.0)
-    (λ same. serves f asked AllExtensions SemiStable literals set (differs f set) all is
-    (second_side (wider f set) (differs f set)) same h.0)
-    h.1
+all_sides f asked all SemiStable is literals set h = ranged_sides f asked Ad all is literals set h
+all_sides f asked all Stage is literals set h = ranged_sides f asked Cf all is literals set h
 all_sides f asked all _ is literals set h = absurd h
 
 pub makes_all : (f : Framework) (asked : Asked) → asked.task.problem ≡ AllExtensions

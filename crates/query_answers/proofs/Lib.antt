@@ -2,6 +2,6 @@ pub mod CallLemmas
 pub mod TestLemmas
 pub mod CompleteStableLemmas
 pub mod PreferredLemmas
-pub mod SemiStableLemmas
+pub mod WidestLemmas
 pub mod IdealLemmas
 pub mod AllLemmas

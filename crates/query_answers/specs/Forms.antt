@@ -42,7 +42,7 @@ abbrev pub sceptical_evidence : Accepting → Evidence
 sceptical_evidence (Counter found) = evidence_with Sceptical found.set found.refutation
 sceptical_evidence (Cover sets step) = record { answer = shown_without Sceptical; sets = sets; steps = step ∷ [] }
 
--- a semi-stable set that shows the answer, or a cover of ranges that shows the other
+-- a set with a widest range that shows the answer, or a cover of ranges that shows the other
 abbrev pub decided_evidence : Problem → Deciding → Evidence
 decided_evidence problem (Witness found) = evidence_with problem found.set found.refutation
 decided_evidence problem (NoWitness sets steps) =

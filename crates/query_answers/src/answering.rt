@@ -12,14 +12,16 @@ use crate::complete_stable::{complete, stable};
 use crate::evidence::{Evidence, SearchOutcome};
 use crate::ideal::by_ideal_set;
 use crate::preferred::preferred;
-use crate::semi_stable_sets::semi_stable;
+use crate::widest_sets::by_widest;
 use iccma_tasks::{Problem, Query, Semantics};
 use oracle_face::{Budget, Halt, Oracle};
+use semantics::Mode;
 use std::alloc::Global;
 
 /// Answers a query that needs a search, with what shows the answer; all extensions are listed where they are at most so
 /// many. The side clauses that it has the oracle keep are those that the query's certificate may have, each made from
-/// an admissible set. The halt is the oracle's, or want of memory; the oracle keeps what it has learned.
+/// an admissible set, or for stage sets from a conflict-free one. The halt is the oracle's, or want of memory; the
+/// oracle keeps what it has learned.
 pub fn answer<O: Oracle>(
     alloc: Global,
     oracle: &mut O,
@@ -61,7 +63,8 @@ fn one<O: Oracle>(
         Semantics::Complete => complete(alloc, oracle, budget, query),
         Semantics::Stable => stable(alloc, oracle, budget, query),
         Semantics::Preferred => preferred(alloc, oracle, budget, query),
-        Semantics::SemiStable => semi_stable(alloc, oracle, budget, query),
+        Semantics::SemiStable => by_widest(alloc, oracle, budget, Mode::Ad, query),
+        Semantics::Stage => by_widest(alloc, oracle, budget, Mode::Cf, query),
         Semantics::Ideal => by_ideal_set(alloc, oracle, budget, query),
         Semantics::Grounded => unreachable!(),
     }

@@ -141,7 +141,8 @@ pub(crate) fn of_accepting(alloc: Global, accepting: Accepting) -> Result<Eviden
     }
 }
 
-/// Whether a semi-stable set shows the answer: by one that does, or a cover of ranges that shows that none does.
+/// Whether a set with a widest range shows the answer: by one that does, or by a cover of ranges that shows that none
+/// does.
 pub(crate) fn of_deciding(
     alloc: Global,
     problem: Problem,

@@ -7,7 +7,7 @@ mod complete_stable;
 mod evidence;
 mod ideal;
 mod preferred;
-mod semi_stable_sets;
+mod widest_sets;
 
 pub use answering::answer;
 pub use evidence::{Evidence, SearchOutcome};

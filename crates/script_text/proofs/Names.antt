@@ -5,7 +5,7 @@ use Rattle.iccma_tasks.specs.declared.task.Problem.{Problem}
 use Rattle.iccma_tasks.specs.declared.task.Problem.TheVariants.{Credulous, Sceptical, SomeExtension, AllExtensions}
 use Rattle.iccma_tasks.specs.declared.task.Semantics.{Semantics}
 use Rattle.iccma_tasks.specs.declared.task.Semantics.TheVariants.{Complete, Grounded, Preferred, Stable}
-use Rattle.iccma_tasks.specs.declared.task.Semantics.TheVariants.{SemiStable, Ideal}
+use Rattle.iccma_tasks.specs.declared.task.Semantics.TheVariants.{SemiStable, Ideal, Stage}
 use Rattle.iccma_tasks.specs.declared.task.Task.{Task}
 use Rattle.iccma_tasks.specs.Tasks.{task_name, task_of}
 use Rattle.edit_rules.specs.declared.edit.Edit.{Edit}
@@ -108,7 +108,7 @@ abbrev semantics_from : List ℕ → Semantics
 semantics_from name =
     if get_or name 3 0 == 67 then Complete else if get_or name 3 0 == 71 then Grounded else
     if get_or name 3 0 == 80 then Preferred else if get_or name 3 0 == 73 then Ideal else
-    if get_or name 4 0 == 84 then Stable else SemiStable
+    if get_or name 4 0 == 83 then SemiStable else if length name == 5 then Stable else Stage
 
 problem_back : (p : Problem) (s : Semantics) → problem_from (task_name (task_of p s)) ≡ p
 problem_back Credulous s = refl
@@ -123,24 +123,28 @@ semantics_back Credulous Preferred = refl
 semantics_back Credulous Stable = refl
 semantics_back Credulous SemiStable = refl
 semantics_back Credulous Ideal = refl
+semantics_back Credulous Stage = refl
 semantics_back Sceptical Complete = refl
 semantics_back Sceptical Grounded = refl
 semantics_back Sceptical Preferred = refl
 semantics_back Sceptical Stable = refl
 semantics_back Sceptical SemiStable = refl
 semantics_back Sceptical Ideal = refl
+semantics_back Sceptical Stage = refl
 semantics_back SomeExtension Complete = refl
 semantics_back SomeExtension Grounded = refl
 semantics_back SomeExtension Preferred = refl
 semantics_back SomeExtension Stable = refl
 semantics_back SomeExtension SemiStable = refl
 semantics_back SomeExtension Ideal = refl
+semantics_back SomeExtension Stage = refl
 semantics_back AllExtensions Complete = refl
 semantics_back AllExtensions Grounded = refl
 semantics_back AllExtensions Preferred = refl
 semantics_back AllExtensions Stable = refl
 semantics_back AllExtensions SemiStable = refl
 semantics_back AllExtensions Ideal = refl
+semantics_back AllExtensions Stage = refl
 
 pub tasks_same : (s t : Task) → task_name s ≡ task_name t → s ≡ t
 tasks_same s t e =

@@ -4,7 +4,7 @@ pub returns : goal.returns
 returns c = λ f all own.
     rw (
       c.in_ok-fixed.ensures,
-      c.yes.ensures,
+      c.of_mode.ensures,
       c.in_ok-ranged.ensures.same,
       c.in_ok-sides.ensures.kept f
           c.args.set.now all own,

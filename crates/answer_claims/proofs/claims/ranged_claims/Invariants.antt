@@ -6,5 +6,5 @@ use Rattle.answer_claims.proofs.claims.ranged_claims.Given as goal
 
 abbrev pub invariant-loop-index : goal.invariant-loop-index
 invariant-loop-index l =
-    AreClaims (framework_of l.framework) l.list (range_cover (framework_of l.framework) (l.bad ∷ []) l.sets ∷ []
-    ++ map (range_free (framework_of l.framework) l.bad) (take l.index l.sets))
+    AreClaims (framework_of l.framework) l.list (range_cover (framework_of l.framework) l.mode (l.bad ∷ []) l.sets ∷ []
+    ++ map (range_free (framework_of l.framework) l.mode l.bad) (take l.index l.sets))

@@ -7,7 +7,7 @@ pub returns : goal.returns
 returns c =
     one_is _ _ _ _ _ c.in_ok-list.ensures (rw (
       c.in_ok-fixed.ensures,
-      c.yes.ensures,
+      c.of_mode.ensures,
       c.in_ok-ranged.ensures.same,
       c.in_ok-sides.ensures,
     ) refl)

@@ -3,7 +3,7 @@ use Rattle.std.specs.Prelude.{Contains, IsTrue}
 use Rattle.std.proofs.lemmas.Iterator.{cases_from_all, YieldsList-from_slice}
 use Rattle.marked_sets.specs.Marks.{is_marked}
 use Rattle.marked_sets.proofs.MarkLemmas.{free_walk}
-use Rattle.marked_sets.proofs.arguments.is_conflict_free.Goals as goal
+use Rattle.marked_sets.proofs.arguments.are_free.Goals as goal
 
 pub returns : goal.returns
 returns c =
