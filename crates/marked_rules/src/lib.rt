@@ -6,7 +6,7 @@ pub mod assumptions;
 mod closing;
 mod cone;
 mod counts;
-mod rule_uses;
+pub mod rule_uses;
 
 pub use assumptions::SetMarks;
 pub use rule_uses::RuleUses;
