@@ -193,11 +193,6 @@ clash f q has lacks =
     let other = (grounded_is f lacks.0).0 lacks.1 in
     lacks.2 (accepts_more f has.0 lacks.0 q (least.least lacks.0 other.complete) has.2)
 
-pub grounded_says : (f : Framework) (g : List ℕ) (q : ℕ) (accepts : Bool) → IsExtension f Grounded g
-    → (IsTrue accepts ↔ Accepts f g q) → GroundedSays f accepts (Some q)
-grounded_says f g q true is test = (g, is, test.0 refl)
-grounded_says f g q false is test = (g, is, λ h. false≢true (test.1 h))
-
 pub says_same : (f : Framework) (q : ℕ) (a says : Bool) → GroundedSays f a (Some q)
     → IsTrue (beq a says) ↔ GroundedSays f says (Some q)
 says_same f q true true h = (λ t. h, λ s. refl)

@@ -2,34 +2,11 @@
 use Rattle.std.specs.Prelude.{◌≡◌, ◌↔◌, ℕ, Bool, List, IsTrue}
 use Rattle.semantics.specs.Frameworks.{Framework, aba, af}
 use Rattle.iccma_tasks.specs.declared.task.Semantics.{Semantics}
-use Rattle.iccma_tasks.specs.declared.task.Semantics.TheVariants.{Complete, Grounded, Preferred, Stable, SemiStable, Ideal, Stage}
+use Rattle.iccma_tasks.specs.declared.task.Semantics.TheVariants.{SemiStable, Stage}
 use Rattle.certificate_claims.specs.declared.row.Row.{Row}
 use Rattle.certificate_claims.specs.declared.row.Row.TheVariants.{Tested, AllTested, AllWidest}
 use Rattle.certificate_claims.specs.Acceptance.{NoRangeWithin}
-use Rattle.certificate_claims.specs.Rights.{IsExtension}
-use Rattle.marked_sets.specs.Unattacked.{AreUnattacked}
-use Rattle.certificate_check.specs.declared.kinds.Basis.{Basis}
-
--- the extensions under the semantics are tested directly
-abbrev pub IsTested : Semantics → Type 0
-IsTested Complete = Unit {0}
-IsTested Grounded = Unit {0}
-IsTested Stable = Unit {0}
-IsTested Preferred = ⊥
-IsTested SemiStable = ⊥
-IsTested Ideal = ⊥
-IsTested Stage = ⊥
-
--- the list has the arguments of an abstract framework that nothing attacks
-abbrev pub ListsUnattacked : Framework → List ℕ → Type 0
-ListsUnattacked (af f) found = AreUnattacked f found
-ListsUnattacked (aba f) found = Unit {0}
-
--- what the tests under the semantics look up is found
-abbrev pub IsBasis : Framework → Semantics → Basis → Type 0
-IsBasis f Complete basis = ListsUnattacked f basis.unattacked.items
-IsBasis f Grounded basis = IsExtension f Grounded basis.grounded
-IsBasis f _ basis = Unit {0}
+use Rattle.set_tests.specs.Bases.{IsTested}
 
 -- the extensions under the semantics have the largest ranges
 abbrev pub HasRanges : Semantics → Type 0

@@ -2,7 +2,6 @@
 #![tactic(auto)]
 
 mod closed;
-mod kinds;
 pub mod refuting;
 mod steps;
 mod taken;

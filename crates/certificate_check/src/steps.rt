@@ -14,7 +14,6 @@ ghost use Rattle.certificate_check.specs.Standing.{IsFirstWithout, StandsAt};
 ghost use Rattle.certificate_check.specs.StepRows.{HasSettled, IsPlaceIn, IsTaken, Settles, TakesOn};
 ghost use Rattle.certificate_check.specs.Idle.{IsIdle, LeavesMore};
 
-use crate::kinds::member_count;
 use crate::taken::{Place, Taken};
 use answer_claims::{SideKind, range_of, side_clause};
 use certificate_claims::{Step, clause_of_axiom};
@@ -22,6 +21,7 @@ use edit_rules::Framework;
 use lists::Memory;
 use meaning_atoms::{AtomLit, AxiomName};
 use set_lists::NumSet;
+use set_tests::member_count;
 use std::alloc::Global;
 
 /// Whether an axiom is one of the framework's kind, with arguments that fit its row.

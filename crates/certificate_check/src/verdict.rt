@@ -13,8 +13,7 @@ ghost use Rattle.certificate_check.specs.Sections.{after_witnesses};
 ghost use Rattle.certificate_check.specs.Witnesses.{IsRowOf, IsTestedRow, ShowsSets, TellsApart};
 
 use crate::check_refutations;
-use crate::kinds::grounded_accepts;
-use crate::witness::{first_bad_witness, is_shaped, takes_sets};
+use crate::witness::{first_bad_set, first_bad_witness, is_shaped, takes_sets};
 use answer_claims::{claims_of, row, shown_sets};
 use certificate_claims::{
     Cause, Certificate, Row, Verdict, no_range_within, none_within, sets_rise,
@@ -23,8 +22,8 @@ use dung_notions::AfPlain;
 use edit_rules::Framework;
 use iccma_tasks::{Answer, Query};
 use lists::Memory;
-use marked_sets::Marks;
 use set_lists::NumSet;
+use set_tests::grounded_accepts;
 use std::alloc::Global;
 
 /// What is checked: the framework, the query on it, the row that the answer picks, the sets that the answer shows, and
@@ -40,7 +39,7 @@ pub(crate) struct Checked<'a> {
 
 impl Checked<'_> {
     /// From the answer's shape on.
-    fn check_row(&self, alloc: Global, marks: &mut Marks) -> Result<Verdict, Memory>
+    fn check_row(&self, alloc: Global) -> Result<Verdict, Memory>
         requires sets { ShowsSets self.now.row.now self.now.shown.now }
         requires tested { IsTestedRow self.now.row.now self.now.query.now.task.semantics }
         requires kind { IsRowOf (framework_of self.now.framework.now) self.now.row.now }
@@ -50,34 +49,27 @@ impl Checked<'_> {
         if !shaped {
             return Ok(Verdict::Rejected(Cause::AnswerShape, 0, 0));
         }
-        let verdict = self.check_witnesses(alloc, marks)?;
+        let verdict = self.check_witnesses(alloc)?;
         Ok(verdict)
     }
 
     /// From the sets that the answer shows on.
-    fn check_witnesses(&self, alloc: Global, marks: &mut Marks) -> Result<Verdict, Memory>
+    fn check_witnesses(&self, alloc: Global) -> Result<Verdict, Memory>
         requires sets { ShowsSets self.now.row.now self.now.shown.now }
         requires tested { IsTestedRow self.now.row.now self.now.query.now.task.semantics }
         requires kind { IsRowOf (framework_of self.now.framework.now) self.now.row.now }
         ensures { IfOk result (FindsIn self.now (after_shape self.now.shown.now self.now.certificate.now)) }
     {
-        let bad = first_bad_witness(
-            alloc,
-            self.framework,
-            self.query,
-            self.row,
-            self.shown,
-            marks,
-        )?;
+        let bad = first_bad_witness(alloc, self.framework, self.query, self.row, self.shown)?;
         if let Some(index) = bad {
             return Ok(Verdict::Rejected(Cause::BadWitness, 0, index + 1));
         }
-        let verdict = self.check_order(alloc, marks)?;
+        let verdict = self.check_order(alloc)?;
         Ok(verdict)
     }
 
     /// From the order of the listed sets and the grounded set on.
-    fn check_order(&self, alloc: Global, marks: &mut Marks) -> Result<Verdict, Memory>
+    fn check_order(&self, alloc: Global) -> Result<Verdict, Memory>
         requires { HasSetsOf (framework_of self.now.framework.now) self.now.row.now }
         ensures { IfOk result (FindsIn self.now (after_witnesses self.now.certificate.now)) }
     {
@@ -89,12 +81,12 @@ impl Checked<'_> {
         if !grounded {
             return Ok(Verdict::Rejected(Cause::BadWitness, 0, 0));
         }
-        let verdict = self.check_set_count(alloc, marks)?;
+        let verdict = self.check_set_count(alloc)?;
         Ok(verdict)
     }
 
     /// From the number of the certificate's sets on.
-    fn check_set_count(&self, alloc: Global, marks: &mut Marks) -> Result<Verdict, Memory>
+    fn check_set_count(&self, alloc: Global) -> Result<Verdict, Memory>
         requires { HasSetsOf (framework_of self.now.framework.now) self.now.row.now }
         ensures { IfOk result (FindsIn self.now (after_order self.now.certificate.now)) }
     {
@@ -102,16 +94,22 @@ impl Checked<'_> {
         if !takes {
             return Ok(Verdict::Rejected(Cause::SetCount, 0, 0));
         }
-        let verdict = self.check_sets(alloc, marks)?;
+        let verdict = self.check_sets(alloc)?;
         Ok(verdict)
     }
 
     /// From the certificate's sets on.
-    fn check_sets(&self, alloc: Global, marks: &mut Marks) -> Result<Verdict, Memory>
+    fn check_sets(&self, alloc: Global) -> Result<Verdict, Memory>
         requires { HasSetsOf (framework_of self.now.framework.now) self.now.row.now }
         ensures { IfOk result (FindsIn self.now (after_set_count self.now.certificate.now)) }
     {
-        let bad = self.first_bad_set(alloc, self.certificate.sets.as_slice(), marks)?;
+        let bad = first_bad_set(
+            alloc,
+            self.framework,
+            self.query,
+            self.row,
+            self.certificate.sets.as_slice(),
+        )?;
         if let Some(index) = bad {
             return Ok(Verdict::Rejected(Cause::BadSet, 0, index + 1));
         }
@@ -256,7 +254,6 @@ pub fn check(
     let _kind = framework.kind();
     let row = row(alloc, framework, query, answer)?;
     let shown = shown_sets(alloc, answer)?;
-    let mut marks = Marks::new(alloc);
     let checked = Checked {
         framework,
         query,
@@ -264,6 +261,6 @@ pub fn check(
         shown: shown.as_slice(),
         certificate,
     };
-    let verdict = checked.check_row(alloc, &mut marks)?;
+    let verdict = checked.check_row(alloc)?;
     Ok(verdict)
 }

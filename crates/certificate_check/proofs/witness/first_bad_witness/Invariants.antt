@@ -1,9 +1,0 @@
-use Rattle.std.proofs.Common.{ℕ, ◌<◌, []}
-use Rattle.std.specs.Prelude.{slice_index_or}
-use Rattle.edit_rules.specs.Kinds.{framework_of}
-use Rattle.certificate_claims.specs.Acceptance.{PassesTest}
-use Rattle.certificate_check.proofs.witness.first_bad_witness.Given as goal
-
-abbrev pub invariant-loop-index : goal.invariant-loop-index
-invariant-loop-index l =
-    (k : ℕ) → k < l.index → PassesTest (framework_of l.framework) l.query l.row (slice_index_or l.shown k [])

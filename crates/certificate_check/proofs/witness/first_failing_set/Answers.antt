@@ -1,0 +1,19 @@
+use Rattle.std.proofs.Common.{sym, ◌∙◌}
+use Rattle.std.proofs.lemmas.Bool.{false≢true}
+use Rattle.edit_rules.specs.Kinds.{framework_of}
+use Rattle.certificate_claims.specs.Acceptance.{PassesSet}
+use Rattle.certificate_check.proofs.SetLemmas.{holds_next, fails_here}
+use Rattle.certificate_check.proofs.witness.first_failing_set.Goals as goal
+
+pub returns-then-not-passes : goal.returns-then-not-passes
+returns-then-not-passes c =
+    fails_here (λ k e. PassesSet (framework_of c.args.tests.now.framework.now) c.args.query.now
+    c.args.row.now k e) _ _ _
+    c.loop-index-test.true c.index-sets-index.is c.loop-index.invariant (λ p. false≢true (sym c.if-not-passes.true
+    ∙ c.in_ok-passes.ensures.1 p))
+
+pub loop-index-preserved : goal.loop-index-preserved
+loop-index-preserved c =
+    holds_next (λ k e. PassesSet (framework_of c.args.tests.now.framework.now) c.args.query.now
+    c.args.row.now k e) _ _ _
+    c.loop-index-test.true c.index-sets-index.is c.loop-index.invariant (c.in_ok-passes.ensures.0 c.if-not-passes.false)

@@ -1,0 +1,5 @@
+pub mod ConeLemmas
+pub mod OverlaidLemmas
+pub mod SearchLemmas
+pub mod StartLemmas
+pub mod TestLemmas

@@ -1,0 +1,4 @@
+pub mod Cone
+pub mod Overlaid
+pub mod Search
+pub mod Tests
