@@ -29,10 +29,7 @@ pub(crate) struct Runner {
 
 impl Drop for Runner {
     fn drop(self) {
-        let Runner {
-            session: _,
-            replies: _,
-        } = self;
+        let Self { session, replies } = self;
     }
 }
 

@@ -27,9 +27,6 @@ pub struct Kept {
 // By hand, so that a drop is one call (docs/PROVING.md).
 impl Drop for Kept {
     fn drop(self) {
-        let Kept {
-            engine: _,
-            answers: _,
-        } = self;
+        let Self { engine, answers } = self;
     }
 }
