@@ -6,6 +6,6 @@ pub all_ranged-requires : goal.all_ranged-requires
 all_ranged-requires g c =
     list_abstract Ad (g.O.Oracle.framework c.args.oracle.now) c.args.task c.requires c.in-SemiStable.is
 
-pub all_ranged-2-requires : goal.all_ranged-2-requires
-all_ranged-2-requires g c =
+pub all_ranged-requires-in-Stage : goal.all_ranged-requires-in-Stage
+all_ranged-requires-in-Stage g c =
     list_abstract Cf (g.O.Oracle.framework c.args.oracle.now) c.args.task c.requires c.in-Stage.is
