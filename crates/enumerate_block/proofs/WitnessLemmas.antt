@@ -244,7 +244,6 @@ module _ (mode : Mode) where
 
   pub may_ask_uncovered : (f : Framework) (log : OracleLog) (q : ℕ) (accepted : Bool) (cover : RangeCover)
       (atom : Atom) (ins outs these numbers : List ℕ) → AreFor q accepted [] cover.asks atom ins outs these numbers
-
       → Contains (members f) q → IsCover f log mode q accepted cover → IsAskable f log.sides atom ins outs these numbers
   may_ask_uncovered f log q accepted cover atom ins outs these numbers are live h =
       askable_as f log.sides q accepted [] cover.asks atom ins outs these numbers are

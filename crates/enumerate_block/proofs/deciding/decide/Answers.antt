@@ -72,7 +72,7 @@ loop-cover-preserved g c =
     c.in_ok-witness-in-Set.ensures.ran.run.grows cover in
     record {
       cover = cover_extended c.args.mode f log c.args.goal c.args.accepted c.loop-cover.cover c.extend.new.cover more.0
-      more.1
+          more.1
           more.2 c.members-members.ensures.kept.numbered later more.3;
       ran = ran_then g.met.O.Oracle.joins (two_more asks c.extend.new.cover.asks more.2 more.3.asks)
           (then_found g.met.O.Oracle.joins c.in-Set.is inv.ran c.in_ok-step.ensures.ran)
@@ -132,8 +132,11 @@ returns-in_err-step-clause-ran g c =
     let inv = c.loop-cover.invariant in
     let ran = c.in_err-step.ensures.ran in
     then_handed {n = 0} g.met.O.Oracle.joins _ c.from_residual.ensures
-    (omega (arith, few_closings c.args.mode _ _ _ _ c.args.goal c.args.accepted c.loop-cover.cover inv.cover
-    ran.run.grows)) inv.ran
+    (omega (
+      arith,
+      few_closings c.args.mode _ _ _ _ c.args.goal c.args.accepted c.loop-cover.cover inv.cover
+          ran.run.grows,
+    )) inv.ran
     ran
 
 pub returns-in-Refuted-clause-ran : goal.returns-in-Refuted-clause-ran
@@ -141,8 +144,11 @@ returns-in-Refuted-clause-ran g c =
     let inv = c.loop-cover.invariant in
     let ran = c.in_ok-step.ensures.ran in
     then_none g.met.O.Oracle.joins c.in-Refuted.is
-    (omega (arith, few_closings c.args.mode _ _ _ _ c.args.goal c.args.accepted c.loop-cover.cover inv.cover
-    ran.run.grows)) inv.ran
+    (omega (
+      arith,
+      few_closings c.args.mode _ _ _ _ c.args.goal c.args.accepted c.loop-cover.cover inv.cover
+          ran.run.grows,
+    )) inv.ran
     ran
 
 pub returns-in_err-witness-in-Set-clause-ran : goal.returns-in_err-witness-in-Set-clause-ran
@@ -172,6 +178,9 @@ returns-in_err-steps-in-Refuted-clause-ran g c =
     let most = 2 * length (g.O.Oracle.log c.find_uncovered.new.oracle).sides + 2 in
     ran_lost {m = most} _ c.from_residual-in_err-steps-in-Refuted.ensures (omega arith)
     (then_none g.met.O.Oracle.joins c.in-Refuted.is
-    (omega (arith, few_closings c.args.mode _ _ _ _ c.args.goal c.args.accepted c.loop-cover.cover inv.cover
-    ran.run.grows)) inv.ran
+    (omega (
+      arith,
+      few_closings c.args.mode _ _ _ _ c.args.goal c.args.accepted c.loop-cover.cover inv.cover
+          ran.run.grows,
+    )) inv.ran
     ran)

@@ -49,7 +49,7 @@ returns-clause-grows g c =
     let ran = c.in_ok-widest.ensures.ran in
     record {
       is_widest = widest_kept c.args.mode f _ log _ _ c.args.set.now w ran.framework ran.kept
-      c.in_ok-ask.ensures.ran.run.grows
+          c.in_ok-ask.ensures.ran.run.grows
           c.in_ok-widest.ensures.widest;
       sets = refl;
       marks = refl;
