@@ -1,6 +1,6 @@
 -- Each session of a transcript is a run of the core.
-use Rattle.std.proofs.Common.{arith, ◌≡◌, ℕ, zero, suc, ◌+◌, ◌==◌, ◌<◌, ◌≤◌, true, List, [], ◌∷◌, ◌++◌, refl, sym, ap, subst, ◌∙◌}
-use Rattle.std.proofs.Common.{length, map, take, get_or, Ok}
+use Rattle.std.proofs.Common.{arith, ◌≡◌, ℕ, ◌+◌, ◌==◌, ◌<◌, ◌≤◌, List, [], ◌∷◌, ◌++◌, refl, sym, ap, subst, ◌∙◌}
+use Rattle.std.proofs.Common.{length, take, get_or, Ok}
 use Rattle.std.specs.Prelude.{Contains, Option, Some}
 use Rattle.std.proofs.lemmas.Bool.{cond_both, eqb-true}
 use Rattle.std.proofs.lemmas.List.{append-nil, append_assoc, get_or-map, length-append, length-map}
@@ -38,8 +38,7 @@ use Rattle.session_core.proofs.AskRuns.{queries_run}
 use Rattle.session_core.proofs.EditRunLemmas.{edits_run, with_room}
 use Rattle.session_core.proofs.FollowingLemmas.{taken_at}
 use Rattle.hinted_log.specs.declared.log.TheConstants.{MAX_STEPS}
-use Rattle.bench_runs.specs.CoreWalks.{AreEventsOf, IsBegun, RunsLine, RunsLines, RunsThrough, SessionsAreRuns}
-use Rattle.bench_runs.specs.CoreWalks.{commits_of}
+use Rattle.bench_runs.specs.CoreWalks.{RunsLine, RunsLines, SessionsAreRuns, commits_of}
 use Rattle.bench_runs.specs.Served.{made_by}
 use Rattle.bench_runs.specs.declared.script_run.TheConstants.{MAX_HISTORY}
 use Rattle.bench_runs.specs.Walks.{DoesCommand, DoesEdit, DoesQuery, Stand, Walks, at_start}
@@ -312,7 +311,8 @@ module _ (f : Framework) (limit budget s : ℕ) (changes : List Change) (done : 
       }) in
       let end = ran.0 in
       let run = ran.2 in
-      let events = refresh s ∷ (run.events ++ answer s asked MAX_EXTENSIONS budget does.kept.pending run.ending ∷ []) in (
+      let last = answer s asked MAX_EXTENSIONS budget does.kept.pending run.ending in
+      let events = refresh s ∷ (run.events ++ last ∷ []) in (
         end,
         record {
           others = more;

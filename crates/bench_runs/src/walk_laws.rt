@@ -20,8 +20,8 @@ pub fn alone_is_determined()
     ensures { AloneIsDetermined }
 {}
 
-/// Each session of a transcript is a run of the core: its edits are commits, its queries refreshes with steps of its own
-/// log and answers, line by line, and the other sessions' edits come between.
+/// Each session of a transcript is a run of the core: its edits are commits, its queries refreshes with steps of its
+/// own log and answers, line by line, and the other sessions' edits come between.
 pub fn sessions_are_runs()
     ensures { SessionsAreRuns }
 {}
