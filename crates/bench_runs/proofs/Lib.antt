@@ -21,3 +21,4 @@ pub mod LeaveLemmas
 pub mod WalkLemmas
 pub mod SharedLemmas
 pub mod AloneLemmas
+pub mod CoreWalkLemmas

@@ -13,5 +13,6 @@ pub mod Running
 pub mod Shared
 pub mod Transcripts
 pub mod Finishing
+pub mod CoreWalks
 pub use Rattle.session_core as session_core
 pub use Rattle.session_core.specs.oracle_core as oracle_core

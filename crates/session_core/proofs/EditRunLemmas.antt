@@ -29,7 +29,7 @@ same_front xs ys x same =
     sym (take-append_seam xs (x ∷ []))
     ∙ (ap (take (length xs)) same ∙ (ap (λ n. take n (ys ++ x ∷ [])) long ∙ take-append_seam ys (x ∷ [])))
 
-with_room : (core : Core) (s : ℕ) (edit : Edit) (outcome : Result (Framework × Effect) EditFault)
+pub with_room : (core : Core) (s : ℕ) (edit : Edit) (outcome : Result (Framework × Effect) EditFault)
     → length core.history < core.limit → edit_outcome (framework_after core.opening core.history) edit ≡ outcome
     → committed core s edit ≡ entry_taken s edit outcome
 with_room core s edit outcome room is =

@@ -1,6 +1,6 @@
-mod AskRuns
-mod EditRunLemmas
-mod FollowingLemmas
+pub mod AskRuns
+pub mod EditRunLemmas
+pub mod FollowingLemmas
 mod ReplyLemmas
 mod RunLemmas
 mod SessionLemmas

@@ -1,0 +1,400 @@
+-- Each session of a transcript is a run of the core.
+use Rattle.std.proofs.Common.{arith, ◌≡◌, ℕ, ◌+◌, ◌==◌, ◌<◌, ◌≤◌, List, [], ◌∷◌, ◌++◌, refl, sym, ap, subst, ◌∙◌}
+use Rattle.std.proofs.Common.{length, take, get_or, Ok}
+use Rattle.std.specs.Prelude.{Contains, Option, Some}
+use Rattle.std.proofs.lemmas.Bool.{cond_both, eqb-true}
+use Rattle.std.proofs.lemmas.List.{append-nil, append_assoc, get_or-map, length-append, length-map}
+use Rattle.std.proofs.lemmas.List.Elements.{Contains-push, filter-append}
+use Rattle.std.proofs.Math.Seq.{take-append_seam}
+use mathlib.Core.List.{IsPrefix}
+use Rattle.semantics.specs.Frameworks.{Framework}
+use Rattle.iccma_tasks.specs.Tasks.{Asked}
+use Rattle.edit_rules.specs.declared.edit.Edit.{Edit}
+use Rattle.edit_rules.specs.declared.effect.Effect.{Effect}
+use Rattle.edit_rules.specs.Replay.{IsTaken, after_edit}
+use Rattle.turn_lock.specs.Turns.{entries_of}
+use Rattle.edit_history.specs.declared.entry.Change.{Change}
+use Rattle.edit_history.specs.declared.entry.HistoryEntry.{HistoryEntry}
+use Rattle.edit_history.specs.Entries.{AreDone, entries_in, entry_of as of_change, framework_after, session_of}
+use Rattle.edit_history.specs.Hubs.{GainsOthers}
+use Rattle.oracle_face.specs.declared.entry.Entry.{Entry as PoolEntry}
+use Rattle.oracle_face.specs.Logs.{OracleLog}
+use Rattle.clause_pool.specs.Pools.{entry_of, index_of}
+use Rattle.script_text.specs.declared.script.ScriptCommand.{ScriptCommand}
+use Rattle.script_text.specs.declared.script.ScriptCommand.TheVariants.{Edit as change_by, Ask}
+use Rattle.script_text.specs.declared.script.ScriptLine.{ScriptLine}
+use Rattle.core_machine.specs.Core.{Core, CoreSession}
+use Rattle.core_machine.specs.Steps.{Event, Runs, after_turn, answer, commit, committed, goes, refresh, rests, taken_by}
+use Rattle.session_replies.specs.declared.reply.Body.{Body}
+use Rattle.session_replies.specs.declared.reply.Body.TheVariants.{Done, EditRefused, Full, Answered, QueryRefused}
+use Rattle.session_replies.specs.declared.reply.Body.TheVariants.{Unknown, TooMany, LogFull}
+use Rattle.session_replies.specs.declared.reply.Reply.{Reply}
+use Rattle.semantics.specs.declared.limits.TheConstants.{MAX_EXTENSIONS}
+use Rattle.session_core.specs.CoreRuns.{HasPooled, IsAtRest, IsQueryOn, StandsAt}
+use Rattle.session_core.specs.EditRuns.{added_by}
+use Rattle.session_core.specs.Replies.{EditSays}
+use Rattle.session_core.specs.declared.kept.KeptAnswer.{KeptAnswer}
+use Rattle.session_core.proofs.AskRuns.{queries_run}
+use Rattle.session_core.proofs.EditRunLemmas.{edits_run, with_room}
+use Rattle.session_core.proofs.FollowingLemmas.{taken_at}
+use Rattle.hinted_log.specs.declared.log.TheConstants.{MAX_STEPS}
+use Rattle.bench_runs.specs.CoreWalks.{RunsLine, RunsLines, SessionsAreRuns, commits_of}
+use Rattle.bench_runs.specs.Served.{made_by}
+use Rattle.bench_runs.specs.declared.script_run.TheConstants.{MAX_HISTORY}
+use Rattle.bench_runs.specs.Walks.{DoesCommand, DoesEdit, DoesQuery, Stand, Walks, at_start}
+use Rattle.bench_runs.proofs.ServedLemmas.{prefix_on, prefix_short}
+use Rattle.bench_runs.proofs.ToldLemmas.{done_by}
+
+-- ---- runs
+
+runs_append : (a b c : Core) (events more : List Event) (first then : List HistoryEntry) → Runs a events first b
+    → Runs b more then c → Runs a (events ++ more) (first ++ then) c
+runs_append a b c events more first then (rests _) second = second
+runs_append a b c events more first then (goes _ mid _ event behind later step runs) second =
+    subst (λ taken. Runs a (event ∷ (behind ++ more)) taken c) (sym (append_assoc (taken_by a event) later then))
+    (goes a mid c event (behind ++ more) (later ++ then) step (runs_append mid b c behind more later then runs second))
+
+-- a turn changes no log, and not where the last answer stands
+turn_log : (core : Core) (s : ℕ) (entries : List HistoryEntry) (n : ℕ)
+    → ((after_turn core s entries).sessions n).log ≡ (core.sessions n).log
+turn_log core s entries n =
+    let session : CoreSession = record (core.sessions s) { seen = length (core.history ++ entries) } in
+    cond_both (n == s) session (core.sessions n) (λ (x : CoreSession). x.log ≡ (core.sessions n).log)
+    (λ is. ap (λ k. (core.sessions k).log) (sym (eqb-true n s is))) (λ other. refl)
+
+turn_answered : (core : Core) (s : ℕ) (entries : List HistoryEntry) (n : ℕ)
+    → ((after_turn core s entries).sessions n).answered ≡ (core.sessions n).answered
+turn_answered core s entries n =
+    let session : CoreSession = record (core.sessions s) { seen = length (core.history ++ entries) } in
+    cond_both (n == s) session (core.sessions n) (λ (x : CoreSession). x.answered ≡ (core.sessions n).answered)
+    (λ is. ap (λ k. (core.sessions k).answered) (sym (eqb-true n s is))) (λ other. refl)
+
+-- ---- entries that come
+
+-- the entries may come behind those before them: there is room for each, and it is taken
+abbrev AreComing : Framework → ℕ → List HistoryEntry → List HistoryEntry → Type 0
+AreComing f limit before [] = Unit {0}
+AreComing f limit before (e ∷ more) =
+    (length before < limit) × ((effect : Effect) × IsTaken (framework_after f before) e.edit effect)
+    × AreComing f limit (before ++ e ∷ []) more
+
+record IsCommittedTo (core end : Core) (more : List HistoryEntry) : Type 0 where
+  opening : end.opening ≡ core.opening
+  limit : end.limit ≡ core.limit
+  pool : end.pool ≡ core.pool
+  history : end.history ≡ core.history ++ more
+  log : (n : ℕ) → (end.sessions n).log ≡ (core.sessions n).log
+  answered : (n : ℕ) → (end.sessions n).answered ≡ (core.sessions n).answered
+
+commits_run : (more : List HistoryEntry) (core : Core) → AreComing core.opening core.limit core.history more
+    → (end : Core) × Runs core (commits_of more) more end × IsCommittedTo core end more
+commits_run [] core are = (
+  core,
+  rests core,
+  record {
+    opening = refl;
+    limit = refl;
+    pool = refl;
+    history = sym (append-nil core.history);
+    log = λ n. refl;
+    answered = λ n. refl;
+  },
+)
+commits_run (e ∷ more) core are =
+    let g = framework_after core.opening core.history in
+    let mid = after_turn core e.session (e ∷ []) in
+    let made : committed core e.session e.edit ≡ e ∷ [] =
+    with_room core e.session e.edit (Ok (after_edit g e.edit, are.1.0)) are.0 are.1.1 in
+    let rest = commits_run more mid are.2 in
+    let to = rest.2 in (
+      rest.0,
+      subst (λ entries. Runs core (commit e.session e.edit ∷ commits_of more) (entries ++ more) rest.0) made
+          (goes core mid rest.0 (commit e.session e.edit) (commits_of more) more
+          (ap (after_turn core e.session) (sym made)) rest.1),
+      record {
+        opening = to.opening;
+        limit = to.limit;
+        pool = to.pool;
+        history = to.history ∙ append_assoc core.history (e ∷ []) more;
+        log = λ n. to.log n ∙ turn_log core e.session (e ∷ []) n;
+        answered = λ n. to.answered n ∙ turn_answered core e.session (e ∷ []) n;
+      },
+    )
+
+seam : (xs : List HistoryEntry) (x : HistoryEntry) (ys : List HistoryEntry)
+    → get_or (xs ++ x ∷ ys) (length xs) x ≡ x
+seam [] x ys = refl
+seam (y ∷ xs) x ys = seam xs x ys
+
+some_change : (changes : List Change) → 0 < length changes → Change
+some_change [] lt = absurd (omega (arith, lt))
+some_change (c ∷ changes) lt = c
+
+-- what stands in a history came so
+are_coming : (f : Framework) (limit : ℕ) (changes : List Change) → AreDone f changes → length changes ≤ limit
+    → (before more rest : List HistoryEntry) → before ++ (more ++ rest) ≡ entries_in changes
+    → AreComing f limit before more
+are_coming f limit changes done few before [] rest e = tt
+are_coming f limit changes done few before (x ∷ more) rest e =
+    let n = length before in
+    let within : n < length changes =
+    omega (arith, ap length e, length-append before (x ∷ (more ++ rest)), length-map changes of_change) in
+    let d = some_change changes (omega (arith, within)) in
+    let taken = taken_at f n changes d done within in
+    let front : take n (entries_in changes) ≡ before =
+    ap (take n) (sym e) ∙ take-append_seam before (x ∷ (more ++ rest)) in
+    let here : get_or (entries_in changes) n x ≡ x = ap (λ l. get_or l n x) (sym e) ∙ seam before x (more ++ rest) in
+    let there : get_or (entries_in changes) n x ≡ of_change (get_or changes n d) =
+    get_or-map of_change changes n d x within in
+    let same : (get_or changes n d).effect.edit ≡ x.edit = ap (λ (y : HistoryEntry). y.edit) (sym there ∙ here) in
+    let effect = (get_or changes n d).effect in (
+      omega (arith, within, few),
+      (
+        effect,
+        subst (λ (edit : Edit). IsTaken (framework_after f before) edit effect) same
+            (subst (λ l. IsTaken (framework_after f l) (get_or changes n d).effect.edit effect) front taken),
+      ),
+      are_coming f limit changes done few (before ++ x ∷ []) more rest
+          (append_assoc before (x ∷ []) (more ++ rest) ∙ e),
+    )
+
+none_behind : (xs ys : List HistoryEntry) → xs ++ ys ≡ xs → ys ≡ []
+none_behind xs [] e = refl
+none_behind xs (y ∷ ys) e = absurd (omega (arith, ap length e, length-append xs (y ∷ ys)))
+
+are_foreign : (s : ℕ) (before now : List HistoryEntry) (gained : GainsOthers s before now)
+    → entries_of session_of s gained.longer.0 ≡ []
+are_foreign s before now gained =
+    let more = gained.longer.0 in
+    none_behind (entries_of session_of s before) (entries_of session_of s more)
+    (sym (filter-append (λ (e : HistoryEntry). session_of e == s) before more)
+    ∙ (ap (entries_of session_of s) gained.longer.1 ∙ gained.own))
+
+-- ---- an edit
+
+-- the history that an edit found, and what it added
+record IsFound (s : ℕ) (edit : Edit) (before now : List HistoryEntry) (body : Body) : Type 0 where
+  found : List HistoryEntry
+  gained : GainsOthers s before found
+  added : found ++ added_by s edit body ≡ now
+
+found_of : (limit : ℕ) (f : Framework) (s : ℕ) (edit : Edit) (before now : List HistoryEntry) (body : Body)
+    → EditSays limit f s edit before now body → IsFound s edit before now body
+found_of limit f s edit before now (Done effect) says =
+    record { found = says.found; gained = says.gained; added = sym says.added.longer }
+found_of limit f s edit before now (EditRefused fault) says =
+    record { found = now; gained = says.0; added = append-nil now }
+found_of limit f s edit before now Full says = record { found = now; gained = says.0; added = append-nil now }
+found_of limit f s edit before now (Answered given certificate) says = absurd says
+found_of limit f s edit before now (QueryRefused fault) says = absurd says
+found_of limit f s edit before now (Unknown count) says = absurd says
+found_of limit f s edit before now TooMany says = absurd says
+found_of limit f s edit before now LogFull says = absurd says
+
+made_same : (s : ℕ) (edit : Edit) (body : Body) → added_by s edit body ≡ made_by s (change_by edit) body
+made_same s edit (Done effect) = refl
+made_same s edit (EditRefused fault) = refl
+made_same s edit Full = refl
+made_same s edit (Answered given certificate) = refl
+made_same s edit (QueryRefused fault) = refl
+made_same s edit (Unknown count) = refl
+made_same s edit TooMany = refl
+made_same s edit LogFull = refl
+
+-- ---- the lines of a session
+
+module _ (f : Framework) (limit budget s : ℕ) (changes : List Change) (done : AreDone f changes)
+    (few : length changes ≤ limit) (start : Core) (answers : List KeptAnswer)
+    (pooled : (kept : KeptAnswer) → Contains answers kept → HasPooled start kept.tokens) where
+  -- the session stands in the core as it does between two lines
+  record StandsIn (core : Core) (stand : Stand) : Type 0 where
+    at : StandsAt core s f stand.seen stand.log
+    limit_is : core.limit ≡ limit
+    pool_is : core.pool ≡ start.pool
+    followed : stand.followed ≤ length stand.seen
+
+  -- other sessions' entries have come
+  record OthersCame (core : Core) (old : Stand) (now more : List HistoryEntry) : Type 0 where
+    mid : Core
+    runs : Runs core (commits_of more) more mid
+    at : StandsAt mid s f now old.log
+    limit_is : mid.limit ≡ limit
+    pool_is : mid.pool ≡ start.pool
+
+  others_come : (core : Core) (old : Stand) (now : List HistoryEntry) → StandsIn core old
+      → (one : IsPrefix old.seen now) → IsPrefix now (entries_in changes) → OthersCame core old now one.0
+  others_come core old now h one on =
+      let more = one.0 in
+      let whole : old.seen ++ (more ++ on.0) ≡ entries_in changes =
+      sym (append_assoc old.seen more on.0) ∙ (ap (λ l. l ++ on.0) one.1 ∙ on.1) in
+      let coming = are_coming f limit changes done few old.seen more on.0 whole in
+      let ran = commits_run more core
+      (subst (λ g. AreComing g core.limit core.history more) (sym h.at.opening)
+      (subst (λ n. AreComing f n core.history more) (sym h.limit_is)
+      (subst (λ l. AreComing f limit l more) (sym h.at.history_is) coming))) in
+      let to = ran.2 in
+      record {
+        mid = ran.0;
+        runs = ran.1;
+        at = record {
+          opening = to.opening ∙ h.at.opening;
+          numbered = h.at.numbered;
+          history_is = to.history ∙ (ap (λ l. l ++ more) h.at.history_is ∙ one.1);
+          log_is = to.log s ∙ h.at.log_is;
+          rests = subst (IsAtRest old.log) (sym (to.answered s)) h.at.rests;
+        };
+        limit_is = to.limit ∙ h.limit_is;
+        pool_is = to.pool ∙ h.pool_is;
+      }
+
+  edit_line : (edit : Edit) (reply : Reply) (core : Core) (old new : Stand) → StandsIn core old
+      → DoesEdit f limit s edit old reply new → IsPrefix new.seen (entries_in changes)
+      → (end : Core) × RunsLine s budget (change_by edit) reply core end × StandsIn end new
+  edit_line edit reply core old new h does on =
+      let is = found_of limit f s edit old.seen new.seen reply.body does.told.says in
+      let added = added_by s edit reply.body in
+      let o = others_come core old is.found h is.gained.longer
+      (prefix_on is.found new.seen (entries_in changes) (added, is.added) on) in
+      let long = prefix_short old.seen new.seen
+      (prefix_on old.seen is.found new.seen is.gained.longer (added, is.added)) in
+      let at : o.mid.history ++ added ≡ new.seen = ap (λ l. l ++ added) o.at.history_is ∙ is.added in
+      let end = after_turn o.mid s added in
+      let run = edits_run f limit s edit old.seen new.seen reply o.mid does.told o.at.opening o.limit_is at in
+      let more = is.gained.longer.0 in (
+        end,
+        record {
+          others = more;
+          foreign = are_foreign s old.seen is.found is.gained;
+          events = commit s edit ∷ [];
+          own = refl;
+          runs = subst (λ l. Runs core (commits_of more ++ commit s edit ∷ []) (more ++ l) end)
+              (made_same s edit reply.body)
+              (runs_append core o.mid end (commits_of more) (commit s edit ∷ []) more added o.runs run);
+          front = does.told.front ∙ sym (ap length at);
+        },
+        record {
+          at = record {
+            opening = o.at.opening;
+            numbered = o.at.numbered;
+            history_is = at;
+            log_is = turn_log o.mid s added s ∙ (o.at.log_is ∙ sym does.log);
+            rests = subst (IsAtRest new.log) (sym (turn_answered o.mid s added s))
+                (subst (λ (log : OracleLog). IsAtRest log (o.mid.sessions s).answered) (sym does.log) o.at.rests);
+          };
+          limit_is = o.limit_is;
+          pool_is = o.pool_is;
+          followed = omega (arith, does.followed, h.followed, long);
+        },
+      )
+
+  query_line : (asked : Asked) (reply : Reply) (core : Core) (old new : Stand) → StandsIn core old
+      → DoesQuery f budget s asked old reply new → IsPrefix new.seen (entries_in changes)
+      → ((kept : KeptAnswer) → Contains new.answers kept → Contains answers kept)
+      → (end : Core) × RunsLine s budget (Ask asked) reply core end × StandsIn end new
+  query_line asked reply core old new h does on keep =
+      let o = others_come core old new.seen h does.gained.longer on in
+      let more = does.gained.longer.0 in
+      let long = prefix_short old.seen new.seen does.gained.longer in
+      let there = keep does.kept
+      (subst (λ l. Contains l does.kept) (sym does.answers) (Contains-push old.answers does.kept)) in
+      let query : IsQueryOn f s asked budget new.seen old.followed old.log new.log does.kept reply.body = record {
+        log = does.before;
+        catches_up = does.catches_up;
+        used = does.used;
+        replied = does.replied;
+        steps = does.steps;
+      } in
+      let ran = queries_run f s asked budget new.seen old.followed old.log new.log does.kept reply.body o.mid query
+      (omega (arith, h.followed, long)) o.at (record {
+        each = λ token is. subst (λ (pool : ℕ → Option PoolEntry). pool (index_of token) ≡ Some (entry_of token))
+            (sym o.pool_is) ((pooled does.kept there).each token is);
+      }) in
+      let end = ran.0 in
+      let run = ran.2 in
+      let last = answer s asked MAX_EXTENSIONS budget does.kept.pending run.ending in
+      let events = refresh s ∷ (run.events ++ last ∷ []) in (
+        end,
+        record {
+          others = more;
+          foreign = are_foreign s old.seen new.seen does.gained;
+          events = events;
+          own = record {
+            steps = run.events;
+            of_log = run.of_log;
+            pending = does.kept.pending;
+            ending = run.ending;
+            ends = run.ends;
+            are = refl;
+          };
+          runs = runs_append core o.mid end (commits_of more) events more [] o.runs run.runs;
+          front = does.front ∙ sym (ap length ran.1.history_is);
+        },
+        record {
+          at = ran.1;
+          limit_is = run.limit_is ∙ o.limit_is;
+          pool_is = run.pool ∙ o.pool_is;
+          followed = omega (arith, does.followed);
+        },
+      )
+
+  line_run : (command : ScriptCommand) (reply : Reply) (core : Core) (old new : Stand) → StandsIn core old
+      → DoesCommand f limit budget s command old reply new → IsPrefix new.seen (entries_in changes)
+      → ((kept : KeptAnswer) → Contains new.answers kept → Contains answers kept)
+      → (end : Core) × RunsLine s budget command reply core end × StandsIn end new
+  line_run (change_by edit) reply core old new h does on keep = edit_line edit reply core old new h does on
+  line_run (Ask asked) reply core old new h does on keep = query_line asked reply core old new h does on keep
+
+  lines_run : (lines : List ScriptLine) (replies : List Reply) (core : Core) (old new : Stand) → StandsIn core old
+      → Walks f limit budget s old lines replies new → IsPrefix new.seen (entries_in changes)
+      → ((kept : KeptAnswer) → Contains new.answers kept → Contains answers kept)
+      → (end : Core) × RunsLines s budget lines replies core end × StandsIn end new
+  lines_run [] [] core old new h walks on keep = (core, refl, subst (StandsIn core) (sym walks) h)
+  lines_run [] (reply ∷ replies) core old new h walks on keep = absurd walks
+  lines_run (line ∷ lines) [] core old new h walks on keep = absurd walks
+  lines_run (line ∷ lines) (reply ∷ replies) core old new h walks on keep =
+      let mid = walks.0 in
+      let later = (done_by f limit budget s lines mid new replies walks.2).on in
+      let first = line_run line.command reply core old mid h walks.1
+      (prefix_on mid.seen new.seen (entries_in changes) later.longer on)
+      (λ kept there. keep kept (later.keeps kept there)) in
+      let rest = lines_run lines replies first.0 mid new first.2 walks.2 on keep in
+      (rest.0, (first.0, first.1, rest.1), rest.2)
+
+-- ---- the law
+
+rests_empty : IsAtRest (at_start MAX_STEPS).log 0
+rests_empty = record { sided = refl; within = omega arith; quiet = λ k low high. absurd (omega (arith, high)) }
+
+pub sessions_run : SessionsAreRuns
+sessions_run f script budget t is k none nothing low core begun =
+    let s = k + 1 in
+    let changes = t.history.entries.items in
+    let walked = (is.served k none nothing (omega (arith, low, is.replies))).walked in
+    let started : StandsIn f MAX_HISTORY budget s changes is.taken is.within core _ begun.pooled core
+    (at_start MAX_STEPS) = record {
+      at = record {
+        opening = begun.opening;
+        numbered = begun.numbered;
+        history_is = begun.no_history;
+        log_is = begun.log_is;
+        rests = subst (IsAtRest (at_start MAX_STEPS).log) (sym begun.answered) rests_empty;
+      };
+      limit_is = begun.limit_is;
+      pool_is = refl;
+      followed = omega arith;
+    } in
+    let ran = lines_run f MAX_HISTORY budget s changes is.taken is.within core _ begun.pooled _ _ core
+    (at_start MAX_STEPS) walked.end started walked.walks walked.gained.longer
+    (λ kept there. subst (λ l. Contains l kept) (sym walked.answers_are) there) in
+    let o = others_come f MAX_HISTORY budget s changes is.taken is.within core _ begun.pooled ran.0 walked.end
+    (entries_in changes) ran.2 walked.gained.longer ([], append-nil (entries_in changes)) in
+    record {
+      mid = ran.0;
+      lines_run = ran.1;
+      others = walked.gained.longer.0;
+      foreign = are_foreign s walked.end.seen (entries_in changes) walked.gained;
+      end = o.mid;
+      runs = o.runs;
+      history_is = o.at.history_is;
+      log_is = o.at.log_is ∙ sym walked.log_is;
+    }
