@@ -73,7 +73,7 @@ none_named (t ∷ ts) name are other = elim (cases_Bool (bytes_eq (task_name t) 
 all_are : AreTasks all_tasks
 unfolding AreTasks
 all_are =
-    (tt, (tt, (tt, (tt, (tt, (tt, (tt, (tt, (tt, (tt, (tt, (tt, (tt, (tt, (tt, (tt, (tt, (tt, (tt, (tt, (tt, (tt, tt))))))))))))))))))))))
+    (tt, (tt, (tt, (tt, (tt, (tt, (tt, (tt, (tt, (tt, (tt, (tt, (tt, (tt, (tt, (tt, (tt, (tt, (tt, (tt, (tt, (tt, (tt, (tt, (tt, (tt, tt))))))))))))))))))))))))))
 
 pub task_unfound : (name : List ℕ) → ((task : Task) → IsTask task → task_name task ≡ name → ⊥)
     → first_named all_tasks name ≡ None
