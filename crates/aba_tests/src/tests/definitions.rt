@@ -8,12 +8,15 @@ use lists::{Items, Memory};
 use std::alloc::Global;
 use std::test::Fail;
 
+/// A rule: its number, its head and its body.
+type RuleRow = (u32, u32, &'static [u32]);
+
 /// A framework.
 #[derive(Clone, Copy, Drop)]
 struct Framework {
     assumptions: &'static [u32],
     contraries: &'static [(u32, u32)],
-    rules: &'static [PlainRule<'static>],
+    rules: &'static [RuleRow],
 }
 
 /// A framework, a notion and all sets of the numbers 1 to 4 that meet it.
@@ -30,14 +33,24 @@ fn set_of(alloc: Global, bits: u32) -> Result<Items<u32>, Memory> {
     Ok(set)
 }
 
+/// The rules of some rows.
+fn rules_of(alloc: Global, rows: &[RuleRow]) -> Result<Vec<PlainRule<'static>>, Memory> {
+    let mut rules = Vec::new(alloc);
+    for &(number, head, body) in rows {
+        rules.push(PlainRule { number, head, body })?;
+    }
+    Ok(rules)
+}
+
 /// Whether exactly the sets of a row meet its notion.
 fn holds(alloc: Global, row: &Row) -> Result<bool, Memory> {
     let &(framework, notion, sets) = row;
+    let rules = rules_of(alloc, framework.rules)?;
     let framework = AbaLists {
         atoms: 5,
         assumptions: framework.assumptions,
         contraries: framework.contraries,
-        rules: framework.rules,
+        rules: &rules,
         next: 10,
     };
     for bits in 0..16 {
@@ -61,36 +74,14 @@ const NONE: Framework = Framework {
 const RIVALS: Framework = Framework {
     assumptions: &[1, 2],
     contraries: &[(1, 3), (2, 4)],
-    rules: &[
-        PlainRule {
-            number: 1,
-            head: 3,
-            body: &[2],
-        },
-        PlainRule {
-            number: 2,
-            head: 4,
-            body: &[1],
-        },
-    ],
+    rules: &[(1, 3, &[2]), (2, 4, &[1])],
 };
 
 /// Contraries that only derive each other.
 const LOOPS: Framework = Framework {
     assumptions: &[1, 2],
     contraries: &[(1, 3), (2, 4)],
-    rules: &[
-        PlainRule {
-            number: 1,
-            head: 3,
-            body: &[4],
-        },
-        PlainRule {
-            number: 2,
-            head: 4,
-            body: &[3],
-        },
-    ],
+    rules: &[(1, 3, &[4]), (2, 4, &[3])],
 };
 
 /// A contrary of its own.
@@ -104,70 +95,28 @@ const ITSELF: Framework = Framework {
 const SUPPORT: Framework = Framework {
     assumptions: &[1, 2],
     contraries: &[(1, 3), (2, 0)],
-    rules: &[
-        PlainRule {
-            number: 4,
-            head: 3,
-            body: &[4],
-        },
-        PlainRule {
-            number: 6,
-            head: 4,
-            body: &[1, 1],
-        },
-    ],
+    rules: &[(4, 3, &[4]), (6, 4, &[1, 1])],
 };
 
 /// A contrary without premises.
 const FACT: Framework = Framework {
     assumptions: &[1],
     contraries: &[(1, 2)],
-    rules: &[
-        PlainRule {
-            number: 1,
-            head: 2,
-            body: &[],
-        },
-        PlainRule {
-            number: 2,
-            head: 2,
-            body: &[],
-        },
-    ],
+    rules: &[(1, 2, &[]), (2, 2, &[])],
 };
 
 /// Two that attack a third together.
 const JOINT: Framework = Framework {
     assumptions: &[1, 2, 3],
     contraries: &[(1, 0), (2, 0), (3, 4)],
-    rules: &[PlainRule {
-        number: 1,
-        head: 4,
-        body: &[1, 2, 1],
-    }],
+    rules: &[(1, 4, &[1, 2, 1])],
 };
 
 /// One that attacks itself and its rival.
 const BLOCKED: Framework = Framework {
     assumptions: &[1, 2],
     contraries: &[(1, 3), (2, 4)],
-    rules: &[
-        PlainRule {
-            number: 1,
-            head: 3,
-            body: &[1],
-        },
-        PlainRule {
-            number: 2,
-            head: 4,
-            body: &[1],
-        },
-        PlainRule {
-            number: 3,
-            head: 3,
-            body: &[2],
-        },
-    ],
+    rules: &[(1, 3, &[1]), (2, 4, &[1]), (3, 3, &[2])],
 };
 
 const ROWS: &[Row] = &[

@@ -1,6 +1,6 @@
 use Rattle.std.proofs.Common.{◌≡◌}
 use Rattle.meaning_atoms.specs.contracts.axiom.AxiomNamePartialEq.TheImpl.{eq-value}
-use Rattle.core_logs.proofs.SameEntries.{axiom_decides}
+use Rattle.entry_taking.specs.NameEquality.{axiom_decides}
 use Rattle.core_logs.proofs.equality.axioms_are_equal.Goals as goal
 
 pub returns : goal.returns
