@@ -77,16 +77,21 @@ hands_down own steps marks k h all hint c =
     (λ past. get_or_past marks (hint - 1) true (omega (arith, h.long, past)))
     (cases_lt (hint - 1) (length steps))
 
+-- a mark that is set behind a mark's fall was set before
+pub still_set : (marks : List Bool) (k j : ℕ) → k < length marks → get_or (set marks k false) j true ≡ true
+    → get_or marks j true ≡ true
+still_set marks k j lt is = ⊎_elim
+    (λ (e : j ≡ k). absurd (false≢true (sym (get_or-set_same marks k false true lt)
+    ∙ subst (λ i. get_or (set marks k false) i true ≡ true) e is)))
+    (λ ne. sym (get_or-set_other marks k j false true ne) ∙ is)
+    (cases_eq j k)
+
 pub settling_goes_on : (own : List ℕ) (steps : List LogStep) (marks : List Bool) (k : ℕ) → IsSettling own steps marks
     → IsFault steps marks k → IsSettling own steps (set marks k false)
 settling_goes_on own steps marks k h fault =
     let lt : k < length marks = omega (arith, h.long, fault.within) in record {
       long = length-set marks k false ∙ h.long;
-      low = λ j less is. ⊎_elim
-          (λ (e : j ≡ k). absurd (false≢true (sym (get_or-set_same marks k false true lt)
-          ∙ subst (λ i. get_or (set marks k false) i true ≡ true) e is)))
-          (λ ne. h.low j less (sym (get_or-set_other marks k j false true ne) ∙ is))
-          (cases_eq j k);
+      low = λ j less is. h.low j less (still_set marks k j lt is);
       high = λ j less all. ⊎_elim
           (λ (e : j ≡ k). absurd (fault.fault (hands_down own steps marks k h
           (subst (λ i. ReachesOwn steps own (i + 1)) e all))))

@@ -2,7 +2,7 @@
 use Rattle.std.proofs.Common.{◌≡◌, ◌∙◌, ℕ, ◌+◌, ◌-◌, ◌<◌, Bool, true, false, not, List, [], ◌∷◌, ◌++◌, append_assoc, length, get_or, map, set, arith, ap, sym, subst, refl, inl, inr, ⊎_elim}
 use Rattle.std.specs.Prelude.{◌⊎◌, Contains, IsTrue, Ok, Err, Result}
 use Rattle.std.proofs.lemmas.Bool.{cases_eq, false≢true}
-use Rattle.std.proofs.lemmas.List.{get_or-map, get_or-set_other, get_or-set_same, length-append, length-map, length-set}
+use Rattle.std.proofs.lemmas.List.{get_or-map, get_or-set_other, length-append, length-map, length-set}
 use Rattle.std.proofs.lemmas.List.Elements.{Contains-append_left, Contains-push, Contains-push_cases}
 use Rattle.lists.proofs.Membership.{Contains-head, Contains-nil, Contains-tail}
 use Rattle.plain_lits.specs.HintCheck.{IsFalseHint, IsFalsified, IsNamed, IsTautology, IsUnit, IsUnitHint, Propagates, clause_at}
@@ -16,6 +16,7 @@ use Rattle.session_log.specs.Ends.{IsTakenByNone}
 use Rattle.core_logs.specs.declared.checking.Status.TheVariants.{Falsified, Unit as Single, Other}
 use Rattle.core_logs.specs.Tests.{IsOther}
 use Rattle.core_answers.specs.Parts.{HasMarks, IsWorking, StatusAt}
+use Rattle.core_answers.proofs.ReachLemmas.{still_set}
 use Rattle.lists.proofs.Images.{image_from}
 use Rattle.lists.proofs.TruthValues.{not_not}
 
@@ -266,11 +267,7 @@ spreading_goes_on steps clause truths after marks k unset h less status e =
       long = length-set marks k false ∙ h.long;
       plain = plain_more truths (get_or steps k no_step).clause unset h.plain status.1;
       more = λ l c. grown l (h.more l c);
-      low = λ j small is. ⊎_elim
-          (λ (same : j ≡ k). absurd (false≢true (sym (get_or-set_same marks k false true lt)
-          ∙ subst (λ i. get_or (set marks k false) i true ≡ true) same is)))
-          (λ ne. h.low j small (sym (get_or-set_other marks k j false true ne) ∙ is))
-          (cases_eq j k);
+      low = λ j small is. h.low j small (still_set marks k j lt is);
       done = λ j small is. ⊎_elim
           (λ (same : j ≡ k). inr (
             unset,

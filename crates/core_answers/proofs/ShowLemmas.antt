@@ -64,6 +64,19 @@ never_one certificate only never look c =
     ⊎_elim (λ (e : only ≡ look). subst (λ l. is_past_tests (told certificate l) ≡ false) e never)
     (λ n. absurd (Contains-nil look n)) (Contains-cons_cases only [] look c)
 
+-- what is looked at behind the sets, behind their count, behind their order, and behind the witnesses
+abbrev counted : List Look
+counted = at_refutation_count ∷ []
+
+abbrev behind_count : List (List ℕ) → List Look
+behind_count sets = map at_set (indices (length sets)) ++ counted
+
+abbrev behind_order : List (List ℕ) → List Look
+behind_order sets = at_set_count ∷ behind_count sets
+
+abbrev behind_shown : List (List ℕ) → List Look
+behind_shown sets = at_order ∷ behind_order sets
+
 pub tests_from : (f : Framework) (asked : Asked) (answer : Answer) (sets : List (List ℕ)) (verdict : Verdict)
     → IsVerdict f asked answer (bare sets) verdict → is_past_tests verdict ≡ true
     → Tests f asked (row_of f asked answer) (sets_of answer) sets
@@ -72,16 +85,12 @@ tests_from f asked answer sets verdict is past =
     let shown = sets_of answer in
     let P = PassesLook f asked (row_of f asked answer) shown cert in
     let T = told cert in
-    let counted = at_refutation_count ∷ [] in
-    let behind_count = map at_set (indices (length sets)) ++ counted in
-    let behind_order = at_set_count ∷ behind_count in
-    let behind_shown = at_order ∷ behind_order in
-    let a = found_behind P T (at_shape ∷ []) (map at_witness (indices (length shown)) ++ behind_shown) verdict
+    let a = found_behind P T (at_shape ∷ []) (map at_witness (indices (length shown)) ++ behind_shown sets) verdict
     (never_one cert at_shape refl) past is in
-    let b = found_behind P T (map at_witness (indices (length shown))) behind_shown verdict
+    let b = found_behind P T (map at_witness (indices (length shown))) (behind_shown sets) verdict
     (never_mapped cert at_witness (length shown) (λ k. refl)) past a.1 in
-    let c = found_behind P T (at_order ∷ []) behind_order verdict (never_one cert at_order refl) past b.1 in
-    let d = found_behind P T (at_set_count ∷ []) behind_count verdict (never_one cert at_set_count refl) past c.1 in
+    let c = found_behind P T (at_order ∷ []) (behind_order sets) verdict (never_one cert at_order refl) past b.1 in
+    let d = found_behind P T (at_set_count ∷ []) (behind_count sets) verdict (never_one cert at_set_count refl) past c.1 in
     let e = found_behind P T (map at_set (indices (length sets))) counted verdict
     (never_mapped cert at_set (length sets) (λ k. refl)) past d.1 in
     let order = pass_first P at_order [] c.0 in
@@ -102,17 +111,13 @@ past_from f asked answer sets verdict is tests =
     let shown = sets_of answer in
     let P = PassesLook f asked (row_of f asked answer) shown cert in
     let T = told cert in
-    let counted = at_refutation_count ∷ [] in
-    let behind_count = map at_set (indices (length sets)) ++ counted in
-    let behind_order = at_set_count ∷ behind_count in
-    let behind_shown = at_order ∷ behind_order in
     let one = λ (look : Look) (h : P look). pass_cons P look [] h (pass_nil P) in
-    let a = behind_found P T (at_shape ∷ []) (map at_witness (indices (length shown)) ++ behind_shown) verdict
+    let a = behind_found P T (at_shape ∷ []) (map at_witness (indices (length shown)) ++ behind_shown sets) verdict
     (one at_shape tests.shape) is in
-    let b = behind_found P T (map at_witness (indices (length shown))) behind_shown verdict
+    let b = behind_found P T (map at_witness (indices (length shown))) (behind_shown sets) verdict
     (pass_map_from P at_witness (length shown) 0 (λ k low less. tests.witnesses k (omega (arith, less)))) a in
-    let c = behind_found P T (at_order ∷ []) behind_order verdict (one at_order (tests.order, tests.grounded)) b in
-    let d = behind_found P T (at_set_count ∷ []) behind_count verdict (one at_set_count tests.count) c in
+    let c = behind_found P T (at_order ∷ []) (behind_order sets) verdict (one at_order (tests.order, tests.grounded)) b in
+    let d = behind_found P T (at_set_count ∷ []) (behind_count sets) verdict (one at_set_count tests.count) c in
     let e = behind_found P T (map at_set (indices (length sets))) counted verdict
     (pass_map_from P at_set (length sets) 0 (λ k low less. tests.each_set k (omega (arith, less)))) d in
     ⊎_elim (λ h. ap is_past_tests h.1) (λ h. ap is_past_tests h.1) e
