@@ -38,29 +38,26 @@ listed P items blank w =
       is = w.is;
     }
 
+-- some item has P where what H says holds, and H says it of an item of some number
+module _ {X : Type 0} (P : X → Type 0) (items : List X) (blank : X) {H : Type 0} (told : IsNumbered P items blank → H)
+    (back : H → IsNumbered P items blank) where
+  some_there : (b : Bool) → IsTrue b ↔ IsSome P items → IsTrue b ↔ H
+  some_there b h = (λ t. told (numbered P items blank (h.0 t)), λ has. h.1 (listed P items blank (back has)))
+
 pub axiom_there : (b : Bool) (steps : List LogStep) (name : AxiomName)
     → IsTrue b ↔ IsSome (λ (s : LogStep). IsOfAxiom s name) steps → IsTrue b ↔ HasAxiom steps name
-axiom_there b steps name h = (
-  λ t. let n = numbered (λ (s : LogStep). IsOfAxiom s name) steps no_step (h.0 t) in
-      record { number = n.number; named = n.named; is = n.is.is },
-  λ has. h.1 (listed (λ (s : LogStep). IsOfAxiom s name) steps no_step
-      (record { number = has.number; named = has.named; is = record { is = has.is } })),
-)
+axiom_there b steps name = some_there (λ (s : LogStep). IsOfAxiom s name) steps no_step
+    (λ n. record { number = n.number; named = n.named; is = n.is.is })
+    (λ has. record { number = has.number; named = has.named; is = record { is = has.is } }) b
 
 pub entry_there : (b : Bool) (steps : List LogStep) (name : EntryName)
     → IsTrue b ↔ IsSome (λ (s : LogStep). IsFromEntry s name) steps → IsTrue b ↔ HasEntry steps name
-entry_there b steps name h = (
-  λ t. let n = numbered (λ (s : LogStep). IsFromEntry s name) steps no_step (h.0 t) in
-      record { number = n.number; named = n.named; is = n.is.is },
-  λ has. h.1 (listed (λ (s : LogStep). IsFromEntry s name) steps no_step
-      (record { number = has.number; named = has.named; is = record { is = has.is } })),
-)
+entry_there b steps name = some_there (λ (s : LogStep). IsFromEntry s name) steps no_step
+    (λ n. record { number = n.number; named = n.named; is = n.is.is })
+    (λ has. record { number = has.number; named = has.named; is = record { is = has.is } }) b
 
 pub side_there : (b : Bool) (sides : List SideClause) (literals : List AtomLit)
     → IsTrue b ↔ IsSome (λ (s : SideClause). IsSideLike s literals) sides → IsTrue b ↔ HasSideLike sides literals
-side_there b sides literals h = (
-  λ t. let n = numbered (λ (s : SideClause). IsSideLike s literals) sides no_side (h.0 t) in
-      record { number = n.number; named = n.named; same = n.is.same },
-  λ has. h.1 (listed (λ (s : SideClause). IsSideLike s literals) sides no_side
-      (record { number = has.number; named = has.named; is = record { same = has.same } })),
-)
+side_there b sides literals = some_there (λ (s : SideClause). IsSideLike s literals) sides no_side
+    (λ n. record { number = n.number; named = n.named; same = n.is.same })
+    (λ has. record { number = has.number; named = has.named; is = record { same = has.same } }) b
