@@ -5,10 +5,10 @@ use Rattle.std.specs.List.{HoldsAt, AllWithin}
 use Rattle.std.proofs.lemmas.Bool.{false≢true}
 use Rattle.std.proofs.lemmas.Iterator.{YieldsList, cases_from_all, cases_from_any}
 use Rattle.std.proofs.lemmas.List.Elements.{Contains-get_or}
-use Rattle.core.specs.Fn.{Called}
-use Rattle.core.specs.Iterator.{YieldsThen}
-use Rattle.core.specs.List.{FoldsTo}
-use Rattle.core.specs.Option.{MatchOption}
+use Rattle.std.specs.Fn.{Called}
+use Rattle.std.specs.Iterator.{YieldsThen}
+use Rattle.std.specs.List.{FoldsTo}
+use Rattle.std.specs.Option.{MatchOption}
 use denote.Param.Members.{Mut}
 use Rattle.lists.proofs.Walks.{all_members}
 
