@@ -2,10 +2,10 @@
 
 ghost use Rattle.std.specs.Prelude.{◌≡◌, ◌↔◌, ◌≤◌, ◌<◌, ℕ, List, count_by, length, map, slice_index_or, take, true, IfOk, IsTrue};
 ghost use Rattle.semantics.specs.Frameworks.{Framework as AnyFramework};
-ghost use Rattle.meaning_atoms.specs.declared.atom.Atom.TheVariants.{Cf, Ad};
 ghost use Rattle.meaning_atoms.specs.declared.axiom.AxiomName.{AxiomName as AnAxiomName};
 ghost use Rattle.meaning_atoms.specs.AxiomNames.{IsAxiomName};
 ghost use Rattle.meaning_atoms.specs.Worlds.{HoldsOf};
+ghost use Rattle.certificate_claims.specs.Claims.{mode_atom};
 ghost use Rattle.certificate_claims.specs.Refutations.{axiom_clause};
 ghost use Rattle.edit_rules.specs.Kinds.{framework_of};
 ghost use Rattle.oracle_face.specs.Logs.{IsSameClause, OracleLog, by_axiom, is_loop, is_unit};
@@ -28,6 +28,7 @@ use iccma_tasks::{Problem, Query, Semantics};
 use lists::Memory;
 use meaning_atoms::{AtomLit, AxiomName};
 use oracle_face::Pending;
+use semantics::Mode;
 use set_lists::NumSet;
 use std::alloc::Global;
 
@@ -187,38 +188,35 @@ fn is_made_as_any(
     Ok(false)
 }
 
-/// Whether a set is admissible.
-fn is_admissible(alloc: Global, framework: &Framework, set: &NumSet) -> Result<bool, Memory>
-    ensures { IfOk result (λ is. IsTrue is ↔ HoldsOf (framework_of framework.now) set.now Ad) }
-{
-    match framework {
-        Framework::Af(plain) => Ok(plain.is_admissible(set)),
-        Framework::Aba(plain) => Ok(plain.is_admissible(alloc, set)?),
-    }
-}
-
-/// Whether a set is conflict-free.
-fn is_conflict_free(alloc: Global, framework: &Framework, set: &NumSet) -> Result<bool, Memory>
-    ensures { IfOk result (λ is. IsTrue is ↔ HoldsOf (framework_of framework.now) set.now Cf) }
-{
-    match framework {
-        Framework::Af(plain) => Ok(plain.is_conflict_free(set)),
-        Framework::Aba(plain) => Ok(plain.is_conflict_free(alloc, set)?),
-    }
-}
-
-/// Whether a set is one that side clauses for a query by the semantics are made from.
-fn may_make_sides(
-    alloc: Global,
-    framework: &Framework,
-    semantics: Semantics,
-    set: &NumSet,
-) -> Result<bool, Memory>
-    ensures { IfOk result (λ may. IsTrue may ↔ HoldsOf (framework_of framework.now) set.now (side_mode semantics)) }
+/// What the sets are that side clauses for a query by the semantics are made from.
+fn base_mode(semantics: Semantics) -> Mode
+    ensures { mode_atom result ≡ side_mode semantics }
 {
     match semantics {
-        Semantics::Stage => is_conflict_free(alloc, framework, set),
-        _ => is_admissible(alloc, framework, set),
+        Semantics::Stage => Mode::Cf,
+        Semantics::Complete => Mode::Ad,
+        Semantics::Grounded => Mode::Ad,
+        Semantics::Preferred => Mode::Ad,
+        Semantics::Stable => Mode::Ad,
+        Semantics::SemiStable => Mode::Ad,
+        Semantics::Ideal => Mode::Ad,
+    }
+}
+
+/// Whether a set is of the mode.
+fn is_of_mode(
+    alloc: Global,
+    framework: &Framework,
+    mode: Mode,
+    set: &NumSet,
+) -> Result<bool, Memory>
+    ensures { IfOk result (λ is. IsTrue is ↔ HoldsOf (framework_of framework.now) set.now (mode_atom mode)) }
+{
+    match (mode, framework) {
+        (Mode::Cf, Framework::Af(plain)) => Ok(plain.is_conflict_free(set)),
+        (Mode::Cf, Framework::Aba(plain)) => Ok(plain.is_conflict_free(alloc, set)?),
+        (Mode::Ad, Framework::Af(plain)) => Ok(plain.is_admissible(set)),
+        (Mode::Ad, Framework::Aba(plain)) => Ok(plain.is_admissible(alloc, set)?),
     }
 }
 
@@ -240,7 +238,8 @@ pub(crate) fn side_serves(
     if !made {
         return Ok(false);
     }
-    let may = may_make_sides(alloc, framework, task.semantics, set)?;
+    let mode = base_mode(task.semantics);
+    let may = is_of_mode(alloc, framework, mode, set)?;
     Ok(may)
 }
 

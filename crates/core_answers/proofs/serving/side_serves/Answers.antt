@@ -10,5 +10,5 @@ returns-then-not-made c =
       λ t. absurd (false≢true t),
       λ h. absurd (false≢true (sym c.if-not-made.true ∙ c.in_ok-made.ensures.1
           (made_as f c.args.query.now _ c.args.literals.now c.args.set.now
-          (rw (c.task.ensures) at (c.kinds_for-kinds.ensures f c.args.set.now)) h))),
+          (rw (c.task-task.ensures) at (c.kinds_for-kinds.ensures f c.args.set.now)) h))),
     )
