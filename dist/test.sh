@@ -429,7 +429,7 @@ fi
 # shellcheck disable=SC1091
 complete=$(. "$room/root/opt/a/share/bash-completion/completions/argue" &&
     COMP_WORDS=(argue -p DC-S) COMP_CWORD=2 && _argue && echo "${COMPREPLY[*]}")
-is "completion of a task" "$complete" "DC-ST DC-SST"
+is "completion of a task" "$complete" "DC-ST DC-SST DC-STG"
 complete=$(. "$room/root/opt/a/share/bash-completion/completions/argue" &&
     COMP_WORDS=(argue check -) COMP_CWORD=2 && _argue && echo "${COMPREPLY[*]}")
 is "completion of options" "$complete" "-p -a -f -r -c"
