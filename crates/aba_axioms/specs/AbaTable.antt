@@ -2,18 +2,19 @@
 --
 -- The axioms are the program's own; they put into clauses what follows by rules (Bondarenko, Dung, Kowalski, Toni 1997)
 -- and what the notions say. Whether a rule's body lies in a closure, and whether some rule derives an atom, is told by
--- walking along the body's atoms or the rules' numbers: B7 and B10 step over a gap, B8 and B11 end the walk.
+-- walking along the body's atoms or the rules' numbers: B7 and B10 step over a gap, B8 and B11 end the walk. B18 and B19
+-- walk so along the contraries of an assumption, for whether one of them lies in a closure.
 use Rattle.std.specs.Prelude.{ℕ, ◌+◌, ◌==◌, if◌then◌else◌, List, [], ◌∷◌, ◌++◌, map}
 use Rattle.std.specs.List.{flat_map}
 use Rattle.meaning_atoms.specs.declared.atom.TheConstants.{END}
 use Rattle.meaning_atoms.specs.declared.atom.Atom.{Atom}
-use Rattle.meaning_atoms.specs.declared.atom.Atom.TheVariants.{Member, Asm, Con, Head, HGap, Body, BGap, Der, Miss, Sup}
+use Rattle.meaning_atoms.specs.declared.atom.Atom.TheVariants.{Member, Asm, Con, ConGap, Head, HGap, Body, BGap, Der, Miss, Sup, Hit}
 use Rattle.meaning_atoms.specs.declared.atom.Atom.TheVariants.{Cf, Ad, Co, St}
 use Rattle.meaning_atoms.specs.declared.atom.Closure.{Closure}
 use Rattle.meaning_atoms.specs.declared.atom.Closure.TheVariants.{Own, Rest}
 use Rattle.meaning_atoms.specs.declared.atom.AtomLit.{AtomLit}
 use Rattle.meaning_atoms.specs.declared.aba_axiom.AbaAxiom.{AbaAxiom}
-use Rattle.meaning_atoms.specs.declared.aba_axiom.AbaAxiom.TheVariants.{B1, B2, B3, B4, B5, B6, B7, B8, B9, B9Con, B10, B11, B12, B13, B14, B15, B16, B17}
+use Rattle.meaning_atoms.specs.declared.aba_axiom.AbaAxiom.TheVariants.{B1, B2, B3, B4, B5, B6, B7, B8, B9, B9Con, B10, B11, B12, B13, B14, B15, B16, B17, B18, B19}
 use Rattle.meaning_atoms.specs.declared.loop_rows.LoopRow.{LoopRow}
 use Rattle.meaning_atoms.specs.Literals.{affirmed, denied}
 use Rattle.meaning_atoms.specs.Notions.{notion_clause}
@@ -52,7 +53,7 @@ loop_clause k x rows =
 abbrev pub aba_clause : AbaAxiom → List AtomLit
 aba_clause (B1 a) = denied Cf ∷ denied (Member a) ∷ affirmed (Asm a) ∷ []
 aba_clause (B2 a) = denied (Member a) ∷ affirmed (Der Own a) ∷ []
-aba_clause (B3 a c) = denied (Con a c) ∷ affirmed (Der Own c) ∷ affirmed (Der Rest a) ∷ []
+aba_clause (B3 a) = denied (Asm a) ∷ affirmed (Hit Own a 1) ∷ affirmed (Der Rest a) ∷ []
 aba_clause (B4 k) = denied (Der k 0) ∷ []
 aba_clause (B5 k r h) = denied (Head r h) ∷ affirmed (Miss k r 1) ∷ affirmed (Der k h) ∷ []
 aba_clause (B6 k r x) = denied (Body r x) ∷ affirmed (Der k x) ∷ affirmed (Miss k r 1) ∷ []
@@ -66,7 +67,10 @@ aba_clause (B10 k x i j) =
 aba_clause (B11 k x i) = denied (Sup k x i) ∷ denied (HGap x i END) ∷ []
 aba_clause (B12 a c) = denied Cf ∷ denied (Con a c) ∷ denied (Member a) ∷ denied (Der Own c) ∷ []
 aba_clause (B13 a c) = denied Ad ∷ denied (Con a c) ∷ denied (Member a) ∷ denied (Der Rest c) ∷ []
-aba_clause (B14 a c) = denied Co ∷ denied (Con a c) ∷ affirmed (Der Rest c) ∷ affirmed (Member a) ∷ []
-aba_clause (B15 a c) = denied St ∷ denied (Con a c) ∷ affirmed (Member a) ∷ affirmed (Der Own c) ∷ []
+aba_clause (B14 a) = denied Co ∷ denied (Asm a) ∷ affirmed (Hit Rest a 1) ∷ affirmed (Member a) ∷ []
+aba_clause (B15 a) = denied St ∷ denied (Asm a) ∷ affirmed (Member a) ∷ affirmed (Hit Own a 1) ∷ []
 aba_clause (B16 part) = notion_clause part
 aba_clause (B17 k x rows) = loop_clause k x rows
+aba_clause (B18 k a i j) =
+    denied (Hit k a i) ∷ denied (ConGap a i j) ∷ affirmed (Der k j) ∷ affirmed (Hit k a (j + 1)) ∷ []
+aba_clause (B19 k a i) = denied (Hit k a i) ∷ denied (ConGap a i END) ∷ []

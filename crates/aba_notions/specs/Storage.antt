@@ -73,11 +73,9 @@ pub record IsStored (f : Aba) (numbers heads : List ℕ) (bodies uses headed : I
   pub form : IsNumberedAba f
   pub table : IsTable f.atoms numbers heads bodies uses headed
 
--- pairs (a, c) that give each assumption one contrary, which is an atom or 0
-pub record AreContraries (atoms : ℕ) (assumptions : List ℕ) (contraries : List (ℕ × ℕ)) : Type 0 where
-  pub of_assumptions : (a c : ℕ) → Contains contraries (a, c) → Contains assumptions a × (c ≤ atoms)
-  pub some : (a : ℕ) → Contains assumptions a → (c : ℕ) × Contains contraries (a, c)
-  pub one : (a c d : ℕ) → Contains contraries (a, c) → Contains contraries (a, d) → c ≡ d
+-- pairs (a, c) of an assumption and an atom
+abbrev pub AreContraries : ℕ → List ℕ → List (ℕ × ℕ) → Type 0
+AreContraries atoms assumptions contraries = (a c : ℕ) → Contains contraries (a, c) → Contains assumptions a × IsAtom atoms c
 
 -- lists of rules over so many atoms: a number and a head for each index, and body atoms under indices
 pub record AreRuleLists (atoms : ℕ) (numbers heads : List ℕ) (bodies : List (ℕ × ℕ)) : Type 0 where

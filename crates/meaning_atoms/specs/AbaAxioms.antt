@@ -3,7 +3,7 @@ use Rattle.std.specs.Prelude.{◌≡◌, ◌⊎◌, ℕ, ◌≤◌, List, Contai
 use Rattle.std.specs.List.Sorted.{IsStrictlyIncreasing}
 use Rattle.aba_laws.specs.semantics.specs.Arguments.{IsArgument}
 use Rattle.meaning_atoms.specs.declared.aba_axiom.AbaAxiom.{AbaAxiom}
-use Rattle.meaning_atoms.specs.declared.aba_axiom.AbaAxiom.TheVariants.{B1, B2, B3, B4, B5, B6, B7, B8, B9, B9Con, B10, B11, B12, B13, B14, B15, B16, B17}
+use Rattle.meaning_atoms.specs.declared.aba_axiom.AbaAxiom.TheVariants.{B1, B2, B3, B4, B5, B6, B7, B8, B9, B9Con, B10, B11, B12, B13, B14, B15, B16, B17, B18, B19}
 use Rattle.meaning_atoms.specs.declared.loop_rows.LoopRow.{LoopRow}
 use Rattle.meaning_atoms.specs.Atoms.{IsAtomOrNone, IsPosition}
 use Rattle.meaning_atoms.specs.Axioms.{IsStretch}
@@ -43,7 +43,7 @@ pub record IsLoop (x : ℕ) (rows : List LoopRow) : Type 0 where
 abbrev pub IsAbaAxiom : AbaAxiom → Type 0
 IsAbaAxiom (B1 a) = IsArgument a
 IsAbaAxiom (B2 a) = IsArgument a
-IsAbaAxiom (B3 a c) = IsArgument a × IsAtomOrNone c
+IsAbaAxiom (B3 a) = IsArgument a
 IsAbaAxiom (B4 k) = Unit {0}
 IsAbaAxiom (B5 k r h) = IsArgument r × IsArgument h
 IsAbaAxiom (B6 k r x) = IsArgument r × IsArgument x
@@ -55,7 +55,9 @@ IsAbaAxiom (B10 k x i j) = IsStretch x i j
 IsAbaAxiom (B11 k x i) = IsArgument x × IsPosition i
 IsAbaAxiom (B12 a c) = IsArgument a × IsAtomOrNone c
 IsAbaAxiom (B13 a c) = IsArgument a × IsAtomOrNone c
-IsAbaAxiom (B14 a c) = IsArgument a × IsAtomOrNone c
-IsAbaAxiom (B15 a c) = IsArgument a × IsAtomOrNone c
+IsAbaAxiom (B14 a) = IsArgument a
+IsAbaAxiom (B15 a) = IsArgument a
 IsAbaAxiom (B16 part) = (1 ≤ part) × (part ≤ 3)
 IsAbaAxiom (B17 k x rows) = IsLoop x rows
+IsAbaAxiom (B18 k a i j) = IsStretch a i j
+IsAbaAxiom (B19 k a i) = IsArgument a × IsPosition i

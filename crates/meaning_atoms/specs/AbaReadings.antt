@@ -10,10 +10,23 @@ use Rattle.meaning_atoms.specs.declared.atom.Closure.TheVariants.{Own, Rest}
 abbrev pub HasContrary : Aba → ℕ → ℕ → Type 0
 HasContrary f a c = Contains f.contraries (a, c)
 
+-- a is an assumption, and has no contrary from i to just before j
+pub record HasNoContrary (f : Aba) (a i j : ℕ) : Type 0 where
+  pub assumption : Contains f.assumptions a
+  pub none : (c : ℕ) → HasContrary f a c → i ≤ c → c < j → ⊥
+
 -- what the set derives, or what the assumptions derive that the set does not attack
 abbrev pub IsInClosure : Aba → List ℕ → Closure → ℕ → Type 0
 IsInClosure f s Own x = IsInTheory f s x
 IsInClosure f s Rest x = Derives f.rules (IsUnattacked (collective_of f) s) x
+
+-- a is an assumption, and some contrary of it, of number i or more, is in the closure
+pub record HasHit (f : Aba) (s : List ℕ) (k : Closure) (a i : ℕ) : Type 0 where
+  pub assumption : Contains f.assumptions a
+  pub contrary : ℕ
+  pub is : HasContrary f a contrary
+  pub late : i ≤ contrary
+  pub derived : IsInClosure f s k contrary
 
 -- a rule of this number is there, of which P holds
 pub record HasRule (f : Aba) (number : ℕ) (P : Rule → Type 0) : Type 0 where

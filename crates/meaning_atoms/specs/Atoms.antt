@@ -4,7 +4,7 @@ use Rattle.aba_laws.specs.semantics.specs.Arguments.{IsArgument}
 use Rattle.meaning_atoms.specs.declared.atom.TheConstants.{END}
 use Rattle.meaning_atoms.specs.declared.atom.Atom.{Atom}
 use Rattle.meaning_atoms.specs.declared.atom.Atom.TheVariants.{Member, Live, Attack, Gap, Tail, Unmet, Range, Cf, Ad, Co, St, Ask}
-use Rattle.meaning_atoms.specs.declared.atom.Atom.TheVariants.{Asm, Con, Head, HGap, Body, BGap, Der, Miss, Sup}
+use Rattle.meaning_atoms.specs.declared.atom.Atom.TheVariants.{Asm, Con, ConGap, Head, HGap, Body, BGap, Der, Miss, Sup, Hit}
 use Rattle.meaning_atoms.specs.declared.atom.AtomLit.{AtomLit}
 use Rattle.meaning_atoms.specs.declared.atom.Closure.{Closure}
 use Rattle.meaning_atoms.specs.declared.atom.Closure.TheVariants.{Own, Rest}
@@ -43,6 +43,7 @@ IsAtom St = Unit {0}
 IsAtom (Ask n) = (1 ≤ n) × (n ≤ 4294967295)
 IsAtom (Asm a) = IsArgument a
 IsAtom (Con a c) = IsArgument a × IsAtomOrNone c
+IsAtom (ConGap a i j) = IsGap a i j
 IsAtom (Head r h) = IsArgument r × IsArgument h
 IsAtom (HGap h i j) = IsGap h i j
 IsAtom (Body r x) = IsArgument r × IsArgument x
@@ -50,6 +51,7 @@ IsAtom (BGap r i j) = IsGap r i j
 IsAtom (Der k x) = IsAtomOrNone x
 IsAtom (Miss k r i) = IsArgument r × IsPosition i
 IsAtom (Sup k x i) = IsAtomOrNone x × IsPosition i
+IsAtom (Hit k a i) = IsArgument a × IsPosition i
 
 -- the literal's atom is within its bounds
 abbrev pub IsLit : AtomLit → Type 0

@@ -5,7 +5,7 @@
 use Rattle.std.specs.Prelude.{ℕ, ◌≤◌, ◌<◌, ◌-◌, Bool, true, false, List, [], Contains, length, slice_index_or}
 use Rattle.meaning_atoms.specs.declared.atom.Atom.{Atom}
 use Rattle.meaning_atoms.specs.declared.atom.Atom.TheVariants.{Member, Live, Attack, Gap, Tail, Unmet, Range, Cf, Ad, Co, St, Ask}
-use Rattle.meaning_atoms.specs.declared.atom.Atom.TheVariants.{Asm, Con, Head, HGap, Body, BGap, Der, Miss, Sup}
+use Rattle.meaning_atoms.specs.declared.atom.Atom.TheVariants.{Asm, Con, ConGap, Head, HGap, Body, BGap, Der, Miss, Sup, Hit}
 use Rattle.meaning_atoms.specs.declared.atom.AtomLit.{AtomLit}
 use Rattle.aba_laws.specs.semantics.specs.Arguments.{IsArgument}
 use Rattle.aba_laws.specs.semantics.specs.Frameworks.{Framework, af, aba, IsNumberedAf}
@@ -13,7 +13,7 @@ use Rattle.aba_laws.specs.semantics.specs.Framework.{Af, Attacks, IsAttackedBy, 
 use Rattle.aba_laws.specs.semantics.specs.AbaFrameworks.{Aba, IsNumberedAba, collective_of}
 use Rattle.aba_laws.specs.semantics.specs.Collectives.{IsConflictFree as IsCollectiveFree, IsAdmissible as IsCollectiveAdmissible}
 use Rattle.aba_laws.specs.semantics.specs.Collectives.{IsComplete as IsCollectiveComplete, IsStable as IsCollectiveStable}
-use Rattle.meaning_atoms.specs.AbaReadings.{HasContrary, HasHead, HasNoHead, HasBodyAtom, HasBodyGap, IsInClosure, HasMiss, HasSupport}
+use Rattle.meaning_atoms.specs.AbaReadings.{HasContrary, HasNoContrary, HasHit, HasHead, HasNoHead, HasBodyAtom, HasBodyGap, IsInClosure, HasMiss, HasSupport}
 
 -- a framework of either kind and a set of numbers, of which only the members count
 pub record World : Type 0 where
@@ -76,6 +76,7 @@ HoldsOfAf f s St = IsStable f s
 HoldsOfAf f s (Asm a) = Unit {0}
 HoldsOfAf f s (Der k x) = 1 ≤ x
 HoldsOfAf f s (Sup k x i) = Unit {0}
+HoldsOfAf f s (Hit k a i) = Unit {0}
 HoldsOfAf f s _ = ⊥
 
 -- what the atom says is so of an assumption-based framework and a set; a side clause is not asked. The atoms of abstract
@@ -84,6 +85,7 @@ abbrev pub HoldsOfAba : Aba → List ℕ → Atom → Type 0
 HoldsOfAba f s (Member a) = Contains s a
 HoldsOfAba f s (Asm a) = Contains f.assumptions a
 HoldsOfAba f s (Con a c) = HasContrary f a c
+HoldsOfAba f s (ConGap a i j) = HasNoContrary f a i j
 HoldsOfAba f s (Head r h) = HasHead f r h
 HoldsOfAba f s (HGap h i j) = HasNoHead f h i j
 HoldsOfAba f s (Body r x) = HasBodyAtom f r x
@@ -91,6 +93,7 @@ HoldsOfAba f s (BGap r i j) = HasBodyGap f r i j
 HoldsOfAba f s (Der k x) = IsInClosure f s k x
 HoldsOfAba f s (Miss k r i) = HasMiss f s k r i
 HoldsOfAba f s (Sup k x i) = HasSupport f s k x i
+HoldsOfAba f s (Hit k a i) = HasHit f s k a i
 HoldsOfAba f s Cf = IsCollectiveFree (collective_of f) s
 HoldsOfAba f s Ad = IsCollectiveAdmissible (collective_of f) s
 HoldsOfAba f s Co = IsCollectiveComplete (collective_of f) s
@@ -157,6 +160,7 @@ IsAfFact _ = ⊥
 abbrev pub IsAbaFact : Atom → Type 0
 IsAbaFact (Asm a) = Unit {0}
 IsAbaFact (Con a c) = Unit {0}
+IsAbaFact (ConGap a i j) = Unit {0}
 IsAbaFact (Head r h) = Unit {0}
 IsAbaFact (HGap h i j) = Unit {0}
 IsAbaFact (Body r x) = Unit {0}

@@ -17,7 +17,7 @@ use std::alloc::Global;
 pub enum AbaAxiom {
     B1(u32),
     B2(u32),
-    B3(u32, u32),
+    B3(u32),
     B4(Closure),
     B5(Closure, u32, u32),
     B6(Closure, u32, u32),
@@ -31,8 +31,8 @@ pub enum AbaAxiom {
     B11(Closure, u32, u32),
     B12(u32, u32),
     B13(u32, u32),
-    B14(u32, u32),
-    B15(u32, u32),
+    B14(u32),
+    B15(u32),
     B16(u32),
     /// The clause of a loop, which says that an atom of the rows is not in the closure.
     B17 {
@@ -40,6 +40,8 @@ pub enum AbaAxiom {
         x: u32,
         rows: Items<LoopRow>,
     },
+    B18(Closure, u32, u32, u32),
+    B19(Closure, u32, u32),
 }
 
 // By hand, so that a drop is one call (docs/PROVING.md).

@@ -51,8 +51,10 @@ pub enum Atom {
     Ask(u32),
     /// The number is an assumption.
     Asm(u32),
-    /// The first number is an assumption, and the second a contrary of it; 0 is the contrary that nothing derives.
+    /// The first number is an assumption, and the second a contrary of it.
     Con(u32, u32),
+    /// The number is an assumption, and no contrary of it is from the second value to just before the third.
+    ConGap(u32, u32, u32),
     /// The rule of the first number is there, and its head is the second.
     Head(u32, u32),
     /// No rule whose number is from the second value to just before the third heads the atom.
@@ -67,6 +69,8 @@ pub enum Atom {
     Miss(Closure, u32, u32),
     /// Some rule whose number is the third value or more heads the atom, with its whole body in the closure.
     Sup(Closure, u32, u32),
+    /// The number is an assumption, and some contrary of it that is the third value or more is in the closure.
+    Hit(Closure, u32, u32),
 }
 
 /// An atom, or its negation.
@@ -112,11 +116,14 @@ impl Atom {
             Atom::Member(a) | Atom::Live(a) | Atom::Range(a) | Atom::Asm(a) => is_argument(a),
             Atom::Attack(b, a) | Atom::Head(b, a) | Atom::Body(b, a) => is_argument(b)
                 && is_argument(a),
-            Atom::Gap(a, i, j) | Atom::HGap(a, i, j) | Atom::BGap(a, i, j) => is_argument(a)
+            Atom::Gap(a, i, j)
+            | Atom::HGap(a, i, j)
+            | Atom::BGap(a, i, j)
+            | Atom::ConGap(a, i, j) => is_argument(a)
                 && is_position(i)
                 && is_position(j)
                 && i <= j,
-            Atom::Tail(a, i) | Atom::Unmet(a, i) | Atom::Miss(_, a, i) => is_argument(a)
+            Atom::Tail(a, i) | Atom::Unmet(a, i) | Atom::Miss(_, a, i) | Atom::Hit(_, a, i) => is_argument(a)
                 && is_position(i),
             Atom::Cf | Atom::Ad | Atom::Co | Atom::St => true,
             Atom::Ask(n) => 1 <= n,

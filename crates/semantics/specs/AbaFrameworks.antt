@@ -2,10 +2,11 @@
 --
 -- Source: A. Bondarenko, P. M. Dung, R. A. Kowalski, F. Toni, "An abstract, argumentation-theoretic approach to default
 -- reasoning", Artificial Intelligence 93 (1997).
-use Rattle.std.specs.Prelude.{◌≡◌, ℕ, ◌+◌, ◌≤◌, ◌<◌, List, Contains, map}
+use Rattle.std.specs.Prelude.{ℕ, ◌+◌, ◌≤◌, ◌<◌, List, Contains, length, map, slice_index_or}
 use Rattle.std.specs.List.Sorted.{IsStrictlyIncreasing}
 use Rattle.semantics.specs.declared.numbers.TheConstants.{MAX_ATOM, MAX_RULE}
 use Rattle.semantics.specs.Collectives.{Collective}
+use Rattle.semantics.specs.Framework.{IsPairBefore}
 use Rattle.semantics.specs.Rules.{Rule, Derives}
 
 -- an assumption-based framework (Bondarenko et al. 1997, definition 2.1)
@@ -13,7 +14,7 @@ pub record Aba : Type 0 where
   -- the atoms are the numbers from 1 to this one
   pub atoms : ℕ
   pub assumptions : List ℕ
-  -- the pair (a, c) reads "c is a contrary of a"; the contrary 0 is no atom, and nothing derives it
+  -- the pair (a, c) reads "c is a contrary of a"; an assumption may have none or several
   pub contraries : List (ℕ × ℕ)
   pub rules : List Rule
   -- the number that the next rule gets
@@ -47,13 +48,14 @@ pub record IsRuleOf (f : Aba) (r : Rule) : Type 0 where
   pub body_rises : IsStrictlyIncreasing r.body
   pub body : (y : ℕ) → Contains r.body y → IsAtom f.atoms y
 
--- the form of a flat framework's lists: assumptions and the numbers of rules rise, each assumption has one contrary,
--- in the order of the assumptions
+-- the form of a flat framework's lists: assumptions and the numbers of rules rise, and the pairs of an assumption and an
+-- atom that is a contrary of it, by assumption and then by contrary
 pub record IsAba (f : Aba) : Type 0 where
   pub assumptions_rise : IsStrictlyIncreasing f.assumptions
   pub assumptions_are : (a : ℕ) → Contains f.assumptions a → IsAtom f.atoms a
-  pub one_contrary : map (λ p. p.0) f.contraries ≡ f.assumptions
-  pub contraries_are : (a c : ℕ) → Contains f.contraries (a, c) → c ≤ f.atoms
+  pub contraries_rise : (i j : ℕ) (d : ℕ × ℕ) → i < j → j < length f.contraries
+      → IsPairBefore (slice_index_or f.contraries i d) (slice_index_or f.contraries j d)
+  pub contraries_are : (a c : ℕ) → Contains f.contraries (a, c) → Contains f.assumptions a × IsAtom f.atoms c
   pub numbers_rise : IsStrictlyIncreasing (map (λ r. r.number) f.rules)
   pub rules_are : (r : Rule) → Contains f.rules r → IsRuleOf f r
   pub next_is : 1 ≤ f.next
