@@ -2,7 +2,7 @@
 use Rattle.std.specs.Prelude.{ℕ, ◌++◌}
 use Rattle.std.specs.Hash as fed
 use Rattle.meaning_atoms.specs.declared.aba_axiom.AbaAxiom.{AbaAxiom}
-use Rattle.meaning_atoms.specs.declared.aba_axiom.AbaAxiom.TheVariants.{B1, B2, B3, B4, B5, B6, B7, B8, B9, B9Con, B10, B11, B12, B13, B14, B15, B16, B17}
+use Rattle.meaning_atoms.specs.declared.aba_axiom.AbaAxiom.TheVariants.{B1, B2, B3, B4, B5, B6, B7, B8, B9, B9Con, B10, B11, B12, B13, B14, B15, B16, B17, B18, B19}
 use Rattle.meaning_atoms.specs.declared.atom.Closure.{Closure}
 use Rattle.meaning_atoms.specs.declared.atom.Closure.TheVariants.{Own, Rest}
 use Rattle.meaning_atoms.specs.declared.axiom.AfAxiom.{AfAxiom}
@@ -40,7 +40,7 @@ af_digest (A14 part) = digest_from 14 0 part 0 0
 abbrev pub aba_digest : AbaAxiom → Digest
 aba_digest (B1 a) = digest_from 21 0 a 0 0
 aba_digest (B2 a) = digest_from 22 0 a 0 0
-aba_digest (B3 a c) = digest_from 23 0 a c 0
+aba_digest (B3 a) = digest_from 23 0 a 0 0
 aba_digest (B4 k) = digest_from 24 (closure_number k) 0 0 0
 aba_digest (B5 k r x) = digest_from 25 (closure_number k) r x 0
 aba_digest (B6 k r x) = digest_from 26 (closure_number k) r x 0
@@ -52,10 +52,12 @@ aba_digest (B10 k x i j) = digest_from 31 (closure_number k) x i j
 aba_digest (B11 k x i) = digest_from 32 (closure_number k) x i 0
 aba_digest (B12 a c) = digest_from 33 0 a c 0
 aba_digest (B13 a c) = digest_from 34 0 a c 0
-aba_digest (B14 a c) = digest_from 35 0 a c 0
-aba_digest (B15 a c) = digest_from 36 0 a c 0
+aba_digest (B14 a) = digest_from 35 0 a 0 0
+aba_digest (B15 a) = digest_from 36 0 a 0 0
 aba_digest (B16 part) = digest_from 37 0 part 0 0
 aba_digest (B17 k x rows) = digest_from 38 (closure_number k) x 0 0
+aba_digest (B18 k a i j) = digest_from 39 (closure_number k) a i j
+aba_digest (B19 k a i) = digest_from 40 (closure_number k) a i 0
 
 abbrev pub digest : StepName → Digest
 digest (Axiom (OfAf name)) = af_digest name

@@ -4,7 +4,7 @@ use Rattle.std.specs.Prelude.{◌↔◌, ◌&&◌, nat_eq}
 use Rattle.std.specs.Cmp.Lexicographic.{pointwise}
 use Rattle.std.proofs.lemmas.Bool.{and_from, and_parts, false≢true}
 use Rattle.meaning_atoms.specs.declared.aba_axiom.AbaAxiom.{AbaAxiom}
-use Rattle.meaning_atoms.specs.declared.aba_axiom.AbaAxiom.TheVariants.{B1, B2, B3, B4, B5, B6, B7, B8, B9, B9Con, B10, B11, B12, B13, B14, B15, B16, B17}
+use Rattle.meaning_atoms.specs.declared.aba_axiom.AbaAxiom.TheVariants.{B1, B2, B3, B4, B5, B6, B7, B8, B9, B9Con, B10, B11, B12, B13, B14, B15, B16, B17, B18, B19}
 use Rattle.meaning_atoms.specs.declared.atom.Closure.{Closure}
 use Rattle.meaning_atoms.specs.declared.atom.Closure.TheVariants.{Own, Rest}
 use Rattle.meaning_atoms.specs.declared.axiom.AfAxiom.{AfAxiom}
@@ -82,7 +82,7 @@ loop_itself x rows =
 aba_same : (a b : AbaAxiom) → (aba_eq).it a b ≡ true → a ≡ b
 aba_same (B1 a) (B1 b) = search rules
 aba_same (B2 a) (B2 b) = search rules
-aba_same (B3 a c) (B3 b d) = search rules
+aba_same (B3 a) (B3 b) = search rules
 aba_same (B4 k) (B4 l) = search rules
 aba_same (B5 k r x) (B5 l s y) = search rules
 aba_same (B6 k r x) (B6 l s y) = search rules
@@ -94,11 +94,13 @@ aba_same (B10 k x i j) (B10 l y m n) = search rules
 aba_same (B11 k x i) (B11 l y m) = search rules
 aba_same (B12 a c) (B12 b d) = search rules
 aba_same (B13 a c) (B13 b d) = search rules
-aba_same (B14 a c) (B14 b d) = search rules
-aba_same (B15 a c) (B15 b d) = search rules
+aba_same (B14 a) (B14 b) = search rules
+aba_same (B15 a) (B15 b) = search rules
 aba_same (B16 a) (B16 b) = search rules
 aba_same (B17 Own x rows) (B17 Own y others) = loop_same Own x y rows others
 aba_same (B17 Rest x rows) (B17 Rest y others) = loop_same Rest x y rows others
+aba_same (B18 k a i j) (B18 l b m n) = search rules
+aba_same (B19 k a i) (B19 l b m) = search rules
 aba_same a b = λ e. absurd (false≢true e)
 
 aba_itself : (a : AbaAxiom) → (aba_eq).it a a ≡ true

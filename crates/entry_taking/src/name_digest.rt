@@ -75,7 +75,7 @@ fn of_aba(axiom: &AbaAxiom) -> Digest
     match axiom {
         AbaAxiom::B1(a) => from_parts(21, 0, *a, 0, 0),
         AbaAxiom::B2(a) => from_parts(22, 0, *a, 0, 0),
-        AbaAxiom::B3(a, c) => from_parts(23, 0, *a, *c, 0),
+        AbaAxiom::B3(a) => from_parts(23, 0, *a, 0, 0),
         AbaAxiom::B4(k) => from_parts(24, closure_number(*k), 0, 0, 0),
         AbaAxiom::B5(k, r, x) => from_parts(25, closure_number(*k), *r, *x, 0),
         AbaAxiom::B6(k, r, x) => from_parts(26, closure_number(*k), *r, *x, 0),
@@ -87,9 +87,11 @@ fn of_aba(axiom: &AbaAxiom) -> Digest
         AbaAxiom::B11(k, x, i) => from_parts(32, closure_number(*k), *x, *i, 0),
         AbaAxiom::B12(a, c) => from_parts(33, 0, *a, *c, 0),
         AbaAxiom::B13(a, c) => from_parts(34, 0, *a, *c, 0),
-        AbaAxiom::B14(a, c) => from_parts(35, 0, *a, *c, 0),
-        AbaAxiom::B15(a, c) => from_parts(36, 0, *a, *c, 0),
+        AbaAxiom::B14(a) => from_parts(35, 0, *a, 0, 0),
+        AbaAxiom::B15(a) => from_parts(36, 0, *a, 0, 0),
         AbaAxiom::B16(part) => from_parts(37, 0, *part, 0, 0),
         AbaAxiom::B17 { closure, x, .. } => from_parts(38, closure_number(*closure), *x, 0, 0),
+        AbaAxiom::B18(k, a, i, j) => from_parts(39, closure_number(*k), *a, *i, *j),
+        AbaAxiom::B19(k, a, i) => from_parts(40, closure_number(*k), *a, *i, 0),
     }
 }

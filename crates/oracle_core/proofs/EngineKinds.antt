@@ -7,7 +7,7 @@ use Rattle.semantics.specs.AbaFrameworks.{Aba, AttacksAssumption}
 use Rattle.semantics.specs.Frameworks.{Framework, af, aba, IsNumbered}
 use Rattle.meaning_atoms.specs.declared.aba_axiom.AbaAxiom.TheVariants.{B2, B16}
 use Rattle.meaning_atoms.specs.declared.atom.Atom.{Atom}
-use Rattle.meaning_atoms.specs.declared.atom.Atom.TheVariants.{Member, Live, Attack, Gap, Asm, Con, Head, HGap, Body, BGap}
+use Rattle.meaning_atoms.specs.declared.atom.Atom.TheVariants.{Member, Live, Attack, Gap, Asm, Con, ConGap, Head, HGap, Body, BGap}
 use Rattle.meaning_atoms.specs.declared.atom.AtomLit.{AtomLit}
 use Rattle.meaning_atoms.specs.declared.axiom.AfAxiom.TheVariants.{A12, A14}
 use Rattle.meaning_atoms.specs.declared.axiom.AxiomName.{AxiomName}
@@ -71,6 +71,8 @@ unfixed_goal (aba f) sides (Asm a) true goal fact = goal
 unfixed_goal (aba f) sides (Asm a) false goal fact = goal
 unfixed_goal (aba f) sides (Con a c) true goal fact = goal
 unfixed_goal (aba f) sides (Con a c) false goal fact = goal
+unfixed_goal (aba f) sides (ConGap a i j) true goal fact = goal
+unfixed_goal (aba f) sides (ConGap a i j) false goal fact = goal
 unfixed_goal (aba f) sides (Head r x) true goal fact = goal
 unfixed_goal (aba f) sides (Head r x) false goal fact = goal
 unfixed_goal (aba f) sides (HGap x i j) true goal fact = goal
