@@ -11,8 +11,9 @@ use std::test::Fail;
 /// A rule: its number, its head and its body.
 type Rule<'a> = (u32, u32, &'a [u32]);
 
-/// A framework: its number of atoms, its assumptions with their contraries, its rules, and the next rule's number.
-pub(crate) type Shown<'a> = (u32, &'a [(u32, u32)], &'a [Rule<'a>], u32);
+/// A framework: its number of atoms, its assumptions, pairs of one and a contrary of it, its rules, and the next rule's
+/// number.
+pub(crate) type Shown<'a> = (u32, &'a [u32], &'a [(u32, u32)], &'a [Rule<'a>], u32);
 
 /// The framework of a text that is no longer than a text may be.
 pub(crate) fn framework_of(alloc: Global, text: &str) -> Option<AbaPlain> {
@@ -42,66 +43,71 @@ fn has_rule(framework: &AbaPlain, index: u32, rule: &Rule<'_>) -> bool {
 /// Whether a framework is the one that is shown.
 pub(crate) fn is_shown(framework: &AbaPlain, shown: &Shown<'_>) -> bool {
     framework.atoms() == shown.0
-        && framework.contraries() == shown.1
-        && framework.rule_numbers().len() == shown.2.len()
+        && framework.assumptions().as_slice() == shown.1
+        && framework.contraries() == shown.2
+        && framework.rule_numbers().len() == shown.3.len()
         && (0..1_000_000u32)
-            .zip(shown.2)
+            .zip(shown.3)
             .all(|(index, rule)| has_rule(framework, index, rule))
-        && framework.next() == shown.3
+        && framework.next() == shown.4
 }
 
 /// Texts, and the framework of each.
 const FRAMEWORKS: &[(&str, Shown<'static>)] = &[
     (
         "p aba 4\na 1\na 2\nc 1 3\nc 2 4\nr 3 2\nr 4 1\n",
-        (4, &[(1, 3), (2, 4)], &[(1, 3, &[2]), (2, 4, &[1])], 3),
+        (4, &[1, 2], &[(1, 3), (2, 4)], &[(1, 3, &[2]), (2, 4, &[1])], 3),
     ),
     (
         "p aba 4\na 1\na 2\nc 1 3\nc 2 4\nr 3 4\nr 4 3",
-        (4, &[(1, 3), (2, 4)], &[(1, 3, &[4]), (2, 4, &[3])], 3),
+        (4, &[1, 2], &[(1, 3), (2, 4)], &[(1, 3, &[4]), (2, 4, &[3])], 3),
     ),
-    ("p aba 3\na 1\nc 1 2\nc 1 2\n", (3, &[(1, 2)], &[], 1)),
+    ("p aba 3\na 1\nc 1 2\nc 1 2\n", (3, &[1], &[(1, 2)], &[], 1)),
     (
         "p aba 2\na 1\nc 1 2\nr 2\n",
-        (2, &[(1, 2)], &[(1, 2, &[])], 2),
+        (2, &[1], &[(1, 2)], &[(1, 2, &[])], 2),
     ),
     (
         "p aba 2\na 1\nr 2 1\nr 2 2\n",
-        (2, &[(1, 0)], &[(1, 2, &[1]), (2, 2, &[2])], 3),
+        (2, &[1], &[], &[(1, 2, &[1]), (2, 2, &[2])], 3),
     ),
-    ("p aba 0", (0, &[], &[], 1)),
-    ("p aba 5\n", (5, &[], &[], 1)),
+    ("p aba 0", (0, &[], &[], &[], 1)),
+    ("p aba 5\n", (5, &[], &[], &[], 1)),
     (
         "p aba 2\na 1\na 1\na 2\na 1",
-        (2, &[(1, 0), (2, 0)], &[], 1),
+        (2, &[1, 2], &[], &[], 1),
     ),
     (
         "p aba 2\nr 2 1\nr 2 1\nc 1 1\na 1",
-        (2, &[(1, 1)], &[(1, 2, &[1]), (2, 2, &[1])], 3),
+        (2, &[1], &[(1, 1)], &[(1, 2, &[1]), (2, 2, &[1])], 3),
     ),
     (
         "p aba 4\nr 4 3 1 3 2 1 3\nr 4 4 4",
-        (4, &[], &[(1, 4, &[1, 2, 3]), (2, 4, &[4])], 3),
+        (4, &[], &[], &[(1, 4, &[1, 2, 3]), (2, 4, &[4])], 3),
+    ),
+    (
+        "p aba 4\nc 1 4\na 1\na 2\nc 1 2\nc 1 4\nc 1 1",
+        (4, &[1, 2], &[(1, 1), (1, 2), (1, 4)], &[], 1),
     ),
     (
         "p aba 3\nc 2 1\nc 1 2\na 2\na 1",
-        (3, &[(1, 2), (2, 1)], &[], 1),
+        (3, &[1, 2], &[(1, 2), (2, 1)], &[], 1),
     ),
     (
         "p aba 3\nr 2 3\n# r 3 2\n\nr 1\nr 3 1 2",
-        (3, &[], &[(1, 2, &[3]), (2, 1, &[]), (3, 3, &[1, 2])], 4),
+        (3, &[], &[], &[(1, 2, &[3]), (2, 1, &[]), (3, 3, &[1, 2])], 4),
     ),
     (
         "# x\n\t\r\n p\taba  1 \r\n a 1\r\n#1\n",
-        (1, &[(1, 0)], &[], 1),
+        (1, &[1], &[], &[], 1),
     ),
     (
         "p aba 0002\na 0001\nc 01 00000000000000002\n",
-        (2, &[(1, 2)], &[], 1),
+        (2, &[1], &[(1, 2)], &[], 1),
     ),
     (
         "p aba 1000000\na 1000000\nc 1000000 1\nr 1 1000000\n",
-        (1000000, &[(1000000, 1)], &[(1, 1, &[1000000])], 2),
+        (1000000, &[1000000], &[(1000000, 1)], &[(1, 1, &[1000000])], 2),
     ),
 ];
 
@@ -160,8 +166,8 @@ fn written_again(alloc: Global, text: &str) -> Option<Bytes> {
 #[test]
 fn written(rt: HostRuntime) {
     one_reading();
-    let text = "p aba 6\nr 6 2 1 2\nc 5 6\n# x\na 5\nr 4\na 2\n\na 1\nc 1 1\nr 6 1 2";
-    let expected = b"p aba 6\na 1\na 2\na 5\nc 1 1\nc 5 6\nr 6 1 2\nr 4\nr 6 1 2\n";
+    let text = "p aba 6\nr 6 2 1 2\nc 5 6\n# x\na 5\nr 4\na 2\n\na 1\nc 1 1\nc 5 3\nr 6 1 2";
+    let expected = b"p aba 6\na 1\na 2\na 5\nc 1 1\nc 5 3\nc 5 6\nr 6 1 2\nr 4\nr 6 1 2\n";
     let holds = match written_again(rt.alloc(), text) {
         Some(bytes) => bytes.as_slice() == expected.as_slice(),
         None => false,

@@ -11,6 +11,7 @@ use edit_rules::{Edit, EditFault, Effect, Framework, apply};
 use lists::{Items, Memory};
 use meaning_atoms::{AxiomName, push_axiom};
 use std::alloc::Global;
+use std::process::Abort;
 use std::test::Fail;
 
 /// An edit, and the axioms that it calls for.
@@ -23,14 +24,60 @@ const ROWS: &[Row] = &[
     (
         Change::AsmAdd(5, 3),
         &[
-            "B2 5", "B3 5 3", "B9 3 5 3", "B12 5 3", "B13 5 3", "B14 5 3", "B15 5 3",
+            "B2 5",
+            "B3 5",
+            "B14 5",
+            "B15 5",
+            "B9 3 5 3",
+            "B12 5 3",
+            "B13 5 3",
+            "B18 1 5 1 3",
+            "B18 2 5 1 3",
+            "B19 1 5 4",
+            "B19 2 5 4",
         ],
     ),
     (Change::ConSet(1, 3), &[]),
     (
+        Change::AsmAdd(5, 0),
+        &["B2 5", "B3 5", "B14 5", "B15 5", "B19 1 5 1", "B19 2 5 1"],
+    ),
+    (
         Change::ConSet(1, 4),
         &[
-            "B3 1 4", "B9 3 1 4", "B12 1 4", "B13 1 4", "B14 1 4", "B15 1 4",
+            "B9 3 1 4",
+            "B12 1 4",
+            "B13 1 4",
+            "B18 1 1 1 4",
+            "B18 2 1 1 4",
+            "B19 1 1 5",
+            "B19 2 1 5",
+        ],
+    ),
+    (Change::ConSet(1, 0), &["B19 1 1 1", "B19 2 1 1"]),
+    (Change::ConDrop(1, 3), &["B19 1 1 1", "B19 2 1 1"]),
+    (
+        Change::ConAdd(1, 5),
+        &[
+            "B9 3 1 5",
+            "B12 1 5",
+            "B13 1 5",
+            "B18 1 1 4 5",
+            "B18 2 1 4 5",
+            "B19 1 1 6",
+            "B19 2 1 6",
+        ],
+    ),
+    (
+        Change::ConAdd(1, 2),
+        &[
+            "B9 3 1 2",
+            "B12 1 2",
+            "B13 1 2",
+            "B18 1 1 1 2",
+            "B18 2 1 1 2",
+            "B18 1 1 3 3",
+            "B18 2 1 3 3",
         ],
     ),
     (Change::AsmDrop(1), &[]),
@@ -73,6 +120,24 @@ const ROWS: &[Row] = &[
     (Change::RuleDrop(3), &["B11 1 3 2", "B11 2 3 2"]),
 ];
 
+/// An assumption with three contraries.
+const SEVERAL: &str = "p aba 5\na 1\nc 1 2\nc 1 3\nc 1 4\n";
+
+const SEVERAL_ROWS: &[Row] = &[
+    (Change::ConDrop(1, 2), &["B18 1 1 1 3", "B18 2 1 1 3"]),
+    (Change::ConDrop(1, 3), &["B18 1 1 3 4", "B18 2 1 3 4"]),
+    (Change::ConDrop(1, 4), &["B19 1 1 4", "B19 2 1 4"]),
+    (
+        Change::ConSet(1, 3),
+        &["B18 1 1 1 3", "B18 2 1 1 3", "B19 1 1 4", "B19 2 1 4"],
+    ),
+    (Change::ConSet(1, 2), &["B19 1 1 3", "B19 2 1 3"]),
+    (Change::AsmDrop(1), &[]),
+];
+
+/// Texts, and what edits of their frameworks call for.
+const WORKED_OUT: &[(&str, &[Row])] = &[(WORKED, ROWS), (SEVERAL, SEVERAL_ROWS)];
+
 /// The axioms that an edit of a framework calls for.
 fn called(alloc: Global, plain: AbaPlain, edit: &Edit) -> Result<Items<AxiomName>, EditFault> {
     let _next = plain.next();
@@ -107,23 +172,31 @@ fn are(alloc: Global, names: &[AxiomName], texts: &[&str]) -> Result<bool, Memor
     Ok(names.len() == texts.len())
 }
 
-/// The axioms that an edit of the worked framework calls for; none where it is refused.
-fn called_by(alloc: Global, edit: &Edit) -> Option<Items<AxiomName>> {
-    let plain = framework_of(alloc, WORKED)?;
+/// The axioms that an edit of the text's framework calls for; none where it is refused.
+fn called_by(alloc: Global, text: &str, edit: &Edit) -> Option<Items<AxiomName>> {
+    let plain = framework_of(alloc, text)?;
     called(alloc, plain, edit).ok()
 }
 
 /// Whether the row's edit calls for just these axioms.
-fn holds(alloc: Global, row: &Row) -> Option<bool> {
+fn holds(alloc: Global, text: &str, row: &Row) -> Option<bool> {
     let edit = edit_of(alloc, row.0).ok()?;
-    let names = called_by(alloc, &edit)?;
+    let names = called_by(alloc, text, &edit)?;
     are(alloc, names.as_slice(), row.1).ok()
+}
+
+/// Asserts that each row's edit of the text's framework calls for just what the row says.
+fn all_hold(rt: &impl Abort, alloc: Global, text: &str, rows: &[Row]) -> Result<(), Fail> {
+    for (number, row) in rows.iter().enumerate() {
+        assert!(rt; holds(alloc, text, row) == Some(true), "row {number}");
+    }
+    Ok(())
 }
 
 #[test]
 fn called_for(rt: HostRuntime) -> Result<(), Fail> {
-    for (number, row) in ROWS.iter().enumerate() {
-        assert!(rt; holds(rt.alloc(), row) == Some(true), "row {number}");
+    for &(text, rows) in WORKED_OUT {
+        all_hold(&rt, rt.alloc(), text, rows)?;
     }
     Ok(())
 }

@@ -94,7 +94,7 @@ const ITSELF: Framework = Framework {
 /// An assumption that supports its contrary.
 const SUPPORT: Framework = Framework {
     assumptions: &[1, 2],
-    contraries: &[(1, 3), (2, 0)],
+    contraries: &[(1, 3)],
     rules: &[(4, 3, &[4]), (6, 4, &[1, 1])],
 };
 
@@ -108,7 +108,7 @@ const FACT: Framework = Framework {
 /// Two that attack a third together.
 const JOINT: Framework = Framework {
     assumptions: &[1, 2, 3],
-    contraries: &[(1, 0), (2, 0), (3, 4)],
+    contraries: &[(3, 4)],
     rules: &[(1, 4, &[1, 2, 1])],
 };
 
