@@ -49,7 +49,7 @@ pub(crate) fn with_assumption(
     )
 }
 
-/// The framework without an assumption and its contrary.
+/// The framework without an assumption and its contraries.
 pub(crate) fn without_assumption(
     alloc: Global,
     plain: &AbaPlain,
@@ -70,7 +70,7 @@ pub(crate) fn without_assumption(
     )
 }
 
-/// The framework with another contrary of an assumption.
+/// The framework in which an assumption has one contrary alone, or none where that is 0.
 pub(crate) fn with_contrary(
     alloc: Global,
     plain: &AbaPlain,
@@ -80,8 +80,20 @@ pub(crate) fn with_contrary(
     requires { NoneStands (contrary_set plain.now assumption contrary).refusals }
     ensures { IfOk result (λ after. after ≡ aba_with_contrary plain.now assumption contrary) }
 {
-    let assumptions = plain.assumptions().copy(alloc)?;
     let contraries = pairs_with(alloc, plain.contraries(), assumption, contrary)?;
+    with_contraries(alloc, plain, contraries)
+}
+
+/// The framework with these pairs of an assumption and a contrary of it, which may stand in any order.
+fn with_contraries(
+    alloc: Global,
+    plain: &AbaPlain,
+    contraries: Vec<(u32, u32)>,
+) -> Result<AbaPlain, Memory>
+    requires { AreContraries plain.now.atoms plain.now.assumptions contraries.items }
+    ensures { IfOk result (HasContraries plain.now contraries.items) }
+{
+    let assumptions = plain.assumptions().copy(alloc)?;
     let rules = rules_except(alloc, plain, 0)?;
     AbaPlain::new(
         alloc,
@@ -91,6 +103,34 @@ pub(crate) fn with_contrary(
         rules,
         plain.next(),
     )
+}
+
+/// The framework with one contrary of an assumption more.
+pub(crate) fn with_pair(
+    alloc: Global,
+    plain: &AbaPlain,
+    assumption: u32,
+    contrary: u32,
+) -> Result<AbaPlain, Memory>
+    requires { NoneStands (contrary_added plain.now assumption contrary).refusals }
+    ensures { IfOk result (λ after. after ≡ aba_with_pair plain.now assumption contrary) }
+{
+    let mut contraries = Vec::from_slice(alloc, plain.contraries())?;
+    contraries.push((assumption, contrary))?;
+    with_contraries(alloc, plain, contraries)
+}
+
+/// The framework with one contrary of an assumption less.
+pub(crate) fn without_pair(
+    alloc: Global,
+    plain: &AbaPlain,
+    assumption: u32,
+    contrary: u32,
+) -> Result<AbaPlain, Memory>
+    ensures { IfOk result (λ after. after ≡ aba_without_pair plain.now assumption contrary) }
+{
+    let contraries = pairs_but(alloc, plain.contraries(), assumption, contrary)?;
+    with_contraries(alloc, plain, contraries)
 }
 
 /// The framework with a rule more.
@@ -151,7 +191,26 @@ fn pairs_except(
     )
 }
 
-/// The pairs in which an assumption has a contrary, and the others as before. They stand in no order.
+/// The pairs but for one.
+fn pairs_but(
+    alloc: Global,
+    pairs: &[(u32, u32)],
+    assumption: u32,
+    contrary: u32,
+) -> Result<Vec<(u32, u32)>, Memory>
+    ensures { IfOk result (λ kept. kept.items ≡ without_pair (assumption, contrary) pairs.now) }
+{
+    Ok(
+        pairs
+            .iter()
+            .copied()
+            .filter(|pair| pair.0 != assumption || pair.1 != contrary)
+            .collect(alloc)?,
+    )
+}
+
+/// The pairs in which an assumption has one contrary alone, or none where that is 0, and the others as before. They
+/// stand in no order.
 fn pairs_with(
     alloc: Global,
     pairs: &[(u32, u32)],
@@ -159,9 +218,12 @@ fn pairs_with(
     contrary: u32,
 ) -> Result<Vec<(u32, u32)>, Memory>
     ensures { IfOk result (λ made.
-        made.items ≡ without_contrary assumption pairs.now ++ (assumption, contrary) ∷ []) }
+        made.items ≡ without_contrary assumption pairs.now ++ pair_of assumption contrary) }
 {
     let mut made = pairs_except(alloc, pairs, assumption)?;
+    if contrary == 0 {
+        return Ok(made);
+    }
     made.push((assumption, contrary))?;
     Ok(made)
 }
