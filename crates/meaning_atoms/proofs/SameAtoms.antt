@@ -10,7 +10,7 @@ use Rattle.std.proofs.lemmas.Bool.{cases_eq, and_from, and_parts}
 use Rattle.aba_laws.specs.semantics.proofs.Decided.{Decided}
 use Rattle.meaning_atoms.specs.declared.atom.Atom.{Atom}
 use Rattle.meaning_atoms.specs.declared.atom.Atom.TheVariants.{Member, Live, Attack, Gap, Tail, Unmet, Range, Cf, Ad, Co, St, Ask}
-use Rattle.meaning_atoms.specs.declared.atom.Atom.TheVariants.{Asm, Con, Head, HGap, Body, BGap, Der, Miss, Sup}
+use Rattle.meaning_atoms.specs.declared.atom.Atom.TheVariants.{Asm, Con, ConGap, Head, HGap, Body, BGap, Der, Miss, Sup, Hit}
 use Rattle.meaning_atoms.specs.declared.atom.Closure.{Closure}
 use Rattle.meaning_atoms.specs.declared.atom.Closure.TheVariants.{Own, Rest}
 use Rattle.meaning_atoms.specs.declared.atom.AtomLit.{AtomLit}
@@ -57,6 +57,7 @@ same_atom St St = inl cc
 same_atom (Ask a) (Ask b) = one Ask a b (λ e. cc)
 same_atom (Asm a) (Asm b) = one Asm a b (λ e. cc)
 same_atom (Con a b) (Con c d) = two Con a b c d (λ e. cc) (λ e. cc)
+same_atom (ConGap a i j) (ConGap b k l) = three ConGap a i j b k l (λ e. cc) (λ e. cc) (λ e. cc)
 same_atom (Head a b) (Head c d) = two Head a b c d (λ e. cc) (λ e. cc)
 same_atom (HGap a i j) (HGap b k l) = three HGap a i j b k l (λ e. cc) (λ e. cc) (λ e. cc)
 same_atom (Body a b) (Body c d) = two Body a b c d (λ e. cc) (λ e. cc)
@@ -67,6 +68,8 @@ same_atom (Miss Own a i) (Miss Own b j) = two (Miss Own) a i b j (λ e. cc) (λ 
 same_atom (Miss Rest a i) (Miss Rest b j) = two (Miss Rest) a i b j (λ e. cc) (λ e. cc)
 same_atom (Sup Own a i) (Sup Own b j) = two (Sup Own) a i b j (λ e. cc) (λ e. cc)
 same_atom (Sup Rest a i) (Sup Rest b j) = two (Sup Rest) a i b j (λ e. cc) (λ e. cc)
+same_atom (Hit Own a i) (Hit Own b j) = two (Hit Own) a i b j (λ e. cc) (λ e. cc)
+same_atom (Hit Rest a i) (Hit Rest b j) = two (Hit Rest) a i b j (λ e. cc) (λ e. cc)
 same_atom _ _ = inr (λ e. absurd (cc))
 
 same_sign : (s t : Bool) → Decided (s ≡ t)
