@@ -11,7 +11,8 @@ use Rattle.edit_rules.specs.declared.edit.Edit.{Edit}
 use Rattle.edit_rules.specs.declared.edit.Edit.TheVariants.{ArgAdd, ArgDrop, AttackAdd, AttackDrop, AsmAdd, AsmDrop, ConSet, RuleAdd, RuleDrop}
 use Rattle.edit_rules.specs.declared.effect.Effect.{Effect}
 use Rattle.edit_rules.specs.Numbers.{has_number}
-use Rattle.edit_rules.specs.Edits.{af_with_argument, af_with_attack, argument_added, argument_dropped, attack_added, attack_dropped, edit_outcome, has_pair, is_end}
+use Rattle.edit_rules.specs.Pairs.{has_pair}
+use Rattle.edit_rules.specs.Edits.{af_with_argument, af_with_attack, argument_added, argument_dropped, attack_added, attack_dropped, edit_outcome, is_end}
 use Rattle.edit_rules.proofs.EditWordTests.{both_gives, either_gives, either_left, number_there, there_number}
 use Rattle.edit_rules.proofs.EditTests.{pair_there, there_pair, within_bounds}
 use Rattle.edit_rules.proofs.RefusalLemmas.{done_passes}

@@ -15,7 +15,8 @@ use Rattle.edit_rules.specs.Refusals.{Refusal, done_unless, refused_if}
 use Rattle.edit_rules.specs.Numbers.{has_number}
 use Rattle.edit_rules.proofs.EditWordTests.{both_gives, both_from, same_pair, is_false, there_number}
 use Rattle.edit_rules.proofs.RefusalLemmas.{done_row, passed}
-use Rattle.edit_rules.specs.Edits.{attack_added, attack_dropped, edit_outcome, end_refusals, has_pair, outside, unknown}
+use Rattle.edit_rules.specs.Pairs.{has_pair}
+use Rattle.edit_rules.specs.Edits.{attack_added, attack_dropped, edit_outcome, end_refusals, outside, unknown}
 use Rattle.edit_rules.specs.Replay.{IsTaken, after_edit, left_by, replay}
 use Rattle.edit_rules.proofs.EditTests.{bounds_within, pair_there, there_pair}
 use Rattle.edit_rules.proofs.RowForms.{with_pair_members}

@@ -13,7 +13,8 @@ use Rattle.edit_rules.specs.declared.effect.Effect.{Effect}
 use Rattle.edit_rules.specs.declared.effect.EditFault.{EditFault}
 use Rattle.edit_rules.specs.Numbers.{has_number}
 use Rattle.edit_rules.specs.Refusals.{Refusal, done_unless}
-use Rattle.edit_rules.specs.Edits.{edit_outcome, has_pair, is_end, with_pair, argument_added, argument_dropped, attack_added, attack_dropped}
+use Rattle.edit_rules.specs.Edits.{edit_outcome, is_end, argument_added, argument_dropped, attack_added, attack_dropped}
+use Rattle.edit_rules.specs.Pairs.{has_pair, with_pair}
 use Rattle.edit_rules.specs.Kinds.{kind_of}
 use Rattle.edit_rules.specs.Replay.{after_edit, left_by, replay}
 use Rattle.edit_rules.proofs.EditWordTests.{absent, both_gives, same_pair, number_there}

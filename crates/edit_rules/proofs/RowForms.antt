@@ -10,7 +10,8 @@ use Rattle.lists.proofs.Membership.{Contains-head, Contains-tail, Contains-cons_
 use Rattle.semantics.specs.Arguments.{IsArgument}
 use Rattle.semantics.specs.Framework.{Af, IsPairBefore}
 use Rattle.semantics.specs.Frameworks.{IsNumberedAf}
-use Rattle.edit_rules.specs.Edits.{af_with_argument, af_with_attack, is_before, is_end, with_pair}
+use Rattle.edit_rules.specs.Edits.{af_with_argument, af_with_attack, is_end}
+use Rattle.edit_rules.specs.Pairs.{is_before, with_pair}
 use Rattle.edit_rules.proofs.RisingLists.{middle_rises, pairs_through}
 use Rattle.edit_rules.proofs.NumberLists.{with_number_members, with_number_rises}
 use Rattle.edit_rules.proofs.EditWordTests.{either_left, is_false}

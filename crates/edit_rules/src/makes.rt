@@ -3,14 +3,15 @@
 ghost use Rattle.std.specs.Prelude.{◌≡◌, ◌<◌, ◌≤◌, ◌+◌, ◌==◌, ◌++◌, ◌∷◌, [], not, true};
 ghost use Rattle.std.specs.Prelude.{IfOk, OnOk, filter, length, map, take};
 ghost use Rattle.semantics.specs.declared.numbers.TheConstants.{MAX_RULE};
-ghost use Rattle.aba_notions.specs.Storage.{rule_at};
+ghost use Rattle.aba_notions.specs.Storage.{AreContraries, rule_at};
 ghost use Rattle.edit_rules.specs.Numbers.{has_number};
 ghost use Rattle.edit_rules.specs.Refusals.{NoneStands};
-ghost use Rattle.edit_rules.specs.AbaEdits.{without_contrary, numbers_of, rules_but};
+ghost use Rattle.edit_rules.specs.Pairs.{without_pair as without_that};
+ghost use Rattle.edit_rules.specs.AbaEdits.{without_contrary, numbers_of, pair_of, rules_but};
 ghost use Rattle.edit_rules.specs.AbaEdits.{aba_with_assumption, aba_without_assumption, aba_with_contrary};
-ghost use Rattle.edit_rules.specs.AbaEdits.{aba_with_rule, aba_without_rule};
-ghost use Rattle.edit_rules.specs.AbaEdits.{assumption_added, contrary_set, rule_added};
-ghost use Rattle.edit_rules.specs.Parts.{AreListsOf};
+ghost use Rattle.edit_rules.specs.AbaEdits.{aba_with_pair, aba_without_pair, aba_with_rule, aba_without_rule};
+ghost use Rattle.edit_rules.specs.AbaEdits.{assumption_added, contrary_set, contrary_added, rule_added};
+ghost use Rattle.edit_rules.specs.Parts.{AreListsOf, HasContraries};
 
 use crate::numbers_but;
 use aba_notions::{AbaPlain, RuleLists};
@@ -198,7 +199,7 @@ fn pairs_but(
     assumption: u32,
     contrary: u32,
 ) -> Result<Vec<(u32, u32)>, Memory>
-    ensures { IfOk result (λ kept. kept.items ≡ without_pair (assumption, contrary) pairs.now) }
+    ensures { IfOk result (λ kept. kept.items ≡ without_that (assumption, contrary) pairs.now) }
 {
     Ok(
         pairs
