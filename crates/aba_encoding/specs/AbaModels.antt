@@ -1,11 +1,11 @@
 -- What a model of the needed axioms tells of the set that it is read as, where the framework is assumption-based.
 use Rattle.std.specs.Prelude.{◌≡◌, ◌↔◌, ◌⊎◌, ℕ, List, Contains, map, slice_index}
 use Rattle.lists.specs.Members.{IsSetOf}
-use Rattle.semantics.specs.AbaFrameworks.{Aba, IsAtom, collective_of}
+use Rattle.semantics.specs.AbaFrameworks.{Aba, AttacksAssumption, IsAtom, collective_of}
 use Rattle.semantics.specs.Collectives.{IsUnattacked}
 use Rattle.meaning_atoms.specs.declared.aba_axiom.AbaAxiom.TheVariants.{B17}
 use Rattle.meaning_atoms.specs.declared.atom.Atom.{Atom}
-use Rattle.meaning_atoms.specs.declared.atom.Atom.TheVariants.{Member, Asm, Der}
+use Rattle.meaning_atoms.specs.declared.atom.Atom.TheVariants.{Member, Asm, Der, Hit}
 use Rattle.meaning_atoms.specs.declared.atom.AtomLit.{AtomLit}
 use Rattle.meaning_atoms.specs.declared.atom.Closure.{Closure}
 use Rattle.meaning_atoms.specs.declared.atom.Closure.TheVariants.{Own, Rest}
@@ -28,12 +28,14 @@ use Rattle.af_encoding.specs.Decoded.{Affirms}
 abbrev pub IsFounded : Aba → List AtomLit → List ℕ → Closure → Type 0
 IsFounded f values s k = (x : ℕ) → IsAtom f.atoms x → Affirms values (Der k x) → IsInClosure f s k x
 
--- the set has each mode that the values affirm, each assumption is a member exactly where they affirm it, and each atom
--- is in a closure of the set exactly where they affirm it
+-- the set has each mode that the values affirm, each assumption is a member exactly where they affirm it, each atom is
+-- in a closure of the set exactly where they affirm it, and the set attacks each assumption of which they affirm that it
+-- has a contrary in the set's closure
 pub record DescribesInAba (f : Aba) (values : List AtomLit) (s : List ℕ) : Type 0 where
   pub modes : (mode : Atom) → IsMode mode → Affirms values mode → HoldsOfAba f s mode
   pub members : (a : ℕ) → Contains f.assumptions a → Affirms values (Member a) ↔ Contains s a
   pub closures : (k : Closure) (x : ℕ) → IsAtom f.atoms x → Affirms values (Der k x) ↔ IsInClosure f s k x
+  pub attacked : (a : ℕ) → Contains f.assumptions a → Affirms values (Hit Own a 1) → AttacksAssumption f s a
 
 -- the name is that of a loop clause, whose arguments fit, for the first atom of its rows
 abbrev pub IsLoopName : AxiomName → Type 0

@@ -1,23 +1,29 @@
 -- Which axioms an edit of an assumption-based framework calls for: those of what it brings.
-use Rattle.std.specs.Prelude.{◌≡◌, ◌-◌, ℕ, ◌+◌, List, Contains, length}
+use Rattle.std.specs.Prelude.{◌≡◌, ◌≢◌, ◌⊎◌, ◌-◌, ℕ, ◌+◌, List, Contains, length}
+use Rattle.std.specs.List.Sorted.{IsStrictlyIncreasing}
+use Rattle.semantics.specs.Arguments.{IsArgument}
 use Rattle.semantics.specs.AbaFrameworks.{Aba, IsNumberedAba}
 use Rattle.semantics.specs.Rules.{Rule}
 use Rattle.aba_notions.specs.Storage.{rule_at}
 use Rattle.semantics.specs.Frameworks.{Framework, aba}
 use Rattle.meaning_atoms.specs.declared.aba_axiom.AbaAxiom.{AbaAxiom}
-use Rattle.meaning_atoms.specs.declared.aba_axiom.AbaAxiom.TheVariants.{B2, B3, B5, B6, B7, B8, B9Con, B10, B11, B12, B13, B14, B15}
+use Rattle.meaning_atoms.specs.declared.aba_axiom.AbaAxiom.TheVariants.{B2, B3, B5, B6, B7, B8, B9Con, B10, B11, B12, B13, B14, B15, B18, B19}
+use Rattle.meaning_atoms.specs.AbaReadings.{HasContrary}
 use Rattle.meaning_atoms.specs.declared.axiom.AxiomName.{AxiomName}
 use Rattle.meaning_atoms.specs.declared.axiom.AxiomName.TheVariants.{Af as OfAf, Aba as OfAba}
 use Rattle.edit_rules.specs.declared.effect.Effect.{Effect}
 use Rattle.oracle_face.specs.AbaNeeded.{Heads, IsBodyEnd, IsBodyStep}
+use Rattle.oracle_face.specs.Walks.{IsWalkEnd, IsWalkStep}
 use Rattle.af_encoding.specs.Changes.{Gains, IsCalledFor, IsEffectOf}
 use Rattle.aba_encoding.specs.Places.{HasNoneAfter, IsNextAfter, IsPlaceBefore}
 
--- what an edit brings: assumptions, contraries of assumptions, rules of a number of which something holds, and steps
--- and ends of the walks along the rules that head an atom
+-- what an edit brings: assumptions, contraries of assumptions with steps and ends of the walks along them, rules of a
+-- number of which something holds, and steps and ends of the walks along the rules that head an atom
 pub record Brought : Type 1 where
   pub assumption : ℕ → Type 0
   pub contrary : ℕ → ℕ → Type 0
+  pub contrary_step : ℕ → ℕ → ℕ → Type 0
+  pub contrary_end : ℕ → ℕ → Type 0
   pub rule : ℕ → (Rule → Type 0) → Type 0
   pub step : ℕ → ℕ → ℕ → Type 0
   pub end : ℕ → ℕ → Type 0
@@ -25,7 +31,7 @@ pub record Brought : Type 1 where
 -- the axiom is one of what is brought
 abbrev pub IsOf : Brought → AbaAxiom → Type 0
 IsOf b (B2 a) = b.assumption a
-IsOf b (B3 a c) = b.contrary a c
+IsOf b (B3 a) = b.assumption a
 IsOf b (B5 k r h) = b.rule r (λ rule. rule.head ≡ h)
 IsOf b (B6 k r x) = b.rule r (λ rule. Contains rule.body x)
 IsOf b (B7 k r i j) = b.rule r (IsBodyStep i j)
@@ -35,8 +41,10 @@ IsOf b (B10 k x i j) = b.step x i j
 IsOf b (B11 k x i) = b.end x i
 IsOf b (B12 a c) = b.contrary a c
 IsOf b (B13 a c) = b.contrary a c
-IsOf b (B14 a c) = b.contrary a c
-IsOf b (B15 a c) = b.contrary a c
+IsOf b (B14 a) = b.assumption a
+IsOf b (B15 a) = b.assumption a
+IsOf b (B18 k a i j) = b.contrary_step a i j
+IsOf b (B19 k a i) = b.contrary_end a i
 IsOf b _ = ⊥
 
 abbrev pub IsNamed : Brought → AxiomName → Type 0
@@ -52,26 +60,70 @@ abbrev pub nothing : Brought
 nothing = record {
   assumption = λ a. ⊥;
   contrary = λ a c. ⊥;
+  contrary_step = λ a i j. ⊥;
+  contrary_end = λ a i. ⊥;
   rule = λ r P. ⊥;
   step = λ x i j. ⊥;
   end = λ x i. ⊥;
 }
 
--- a with the contrary c, where a was no assumption
-abbrev pub by_assumption : ℕ → ℕ → Brought
-by_assumption a c = record {
+-- a with its contraries, where a was no assumption
+abbrev pub by_assumption : Aba → ℕ → Brought
+by_assumption f a = record {
   assumption = λ x. x ≡ a;
-  contrary = λ x y. (x ≡ a) × (y ≡ c);
+  contrary = λ x c. (x ≡ a) × HasContrary f a c;
+  contrary_step = λ x i j. (x ≡ a) × IsWalkStep (HasContrary f a) i j;
+  contrary_end = λ x i. (x ≡ a) × IsWalkEnd (HasContrary f a) i;
   rule = λ r P. ⊥;
   step = λ x i j. ⊥;
   end = λ x i. ⊥;
 }
 
--- the contrary c of a, where that of a was another one
-abbrev pub by_contrary : ℕ → ℕ → ℕ → Brought
-by_contrary a c gone = record {
+-- the number is the only contrary, where 0 is none
+abbrev pub IsOnly : ℕ → ℕ → Type 0
+IsOnly c y = (c ≢ 0) × (y ≡ c)
+
+-- numbers of atoms in their order
+pub record AreAtoms (list : List ℕ) : Type 0 where
+  pub rise : IsStrictlyIncreasing list
+  pub each : (y : ℕ) → Contains list y → IsArgument y
+
+-- c as the only contrary of a, or none where c is 0, as far as the contraries that a had before hadn't this
+abbrev pub by_contrary_set : ℕ → ℕ → List ℕ → Brought
+by_contrary_set a c gone = record {
   assumption = λ x. ⊥;
-  contrary = λ x y. (c ≡ gone → ⊥) × (x ≡ a) × (y ≡ c);
+  contrary = λ x y. (x ≡ a) × IsOnly c y × (Contains gone y → ⊥);
+  contrary_step = λ x i j. (x ≡ a) × IsWalkStep (IsOnly c) i j × (IsWalkStep (Contains gone) i j → ⊥);
+  contrary_end = λ x i. (x ≡ a) × IsWalkEnd (IsOnly c) i × (IsWalkEnd (Contains gone) i → ⊥);
+  rule = λ r P. ⊥;
+  step = λ x i j. ⊥;
+  end = λ x i. ⊥;
+}
+
+-- the step past c from such a place, or the end where no contrary is past it, of the walk along the contraries of a
+abbrev pub by_contrary_past : Aba → ℕ → ℕ → (ℕ → Type 0) → Brought
+by_contrary_past f a c From = record {
+  assumption = λ x. ⊥;
+  contrary = λ x y. ⊥;
+  contrary_step = λ x i j. (x ≡ a) × From i × IsNextAfter (HasContrary f a) c j;
+  contrary_end = λ x i. (x ≡ a) × From i × HasNoneAfter (HasContrary f a) c;
+  rule = λ r P. ⊥;
+  step = λ x i j. ⊥;
+  end = λ x i. ⊥;
+}
+
+-- where the contrary c went: that step from where the walk came to c
+abbrev pub by_contrary_gone : Aba → ℕ → ℕ → Brought
+by_contrary_gone f a c = by_contrary_past f a c (IsPlaceBefore (HasContrary f a) c)
+
+-- the contrary c of a with the step to it, and the step past it or the end
+abbrev pub by_contrary_added : Aba → ℕ → ℕ → Brought
+by_contrary_added f a c = record {
+  assumption = λ x. ⊥;
+  contrary = λ x y. (x ≡ a) × (y ≡ c);
+  contrary_step = λ x i j. (x ≡ a)
+      × ((IsPlaceBefore (HasContrary f a) c i × (j ≡ c)) ⊎ ((i ≡ c + 1) × IsNextAfter (HasContrary f a) c j));
+  contrary_end = λ x i. (x ≡ a) × (i ≡ c + 1) × HasNoneAfter (HasContrary f a) c;
   rule = λ r P. ⊥;
   step = λ x i j. ⊥;
   end = λ x i. ⊥;
@@ -82,6 +134,8 @@ abbrev pub by_rule : Rule → Brought
 by_rule rule = record {
   assumption = λ x. ⊥;
   contrary = λ x y. ⊥;
+  contrary_step = λ x i j. ⊥;
+  contrary_end = λ x i. ⊥;
   rule = λ r P. (r ≡ rule.number) × P rule;
   step = λ x i j. ⊥;
   end = λ x i. ⊥;
@@ -92,6 +146,8 @@ abbrev pub by_rule_head : Aba → ℕ → ℕ → Brought
 by_rule_head f h n = record {
   assumption = λ x. ⊥;
   contrary = λ x y. ⊥;
+  contrary_step = λ x i j. ⊥;
+  contrary_end = λ x i. ⊥;
   rule = λ r P. ⊥;
   step = λ x i j. (x ≡ h) × IsPlaceBefore (Heads f h) n i × (j ≡ n);
   end = λ x i. (x ≡ h) × (i ≡ n + 1);
@@ -105,6 +161,8 @@ abbrev pub by_last_rule : Aba → ℕ → Brought
 by_last_rule f h = record {
   assumption = λ x. ⊥;
   contrary = λ x y. ⊥;
+  contrary_step = λ x i j. ⊥;
+  contrary_end = λ x i. ⊥;
   rule = (by_rule (last_rule f)).rule;
   step = (by_rule_head f h (last_rule f).number).step;
   end = (by_rule_head f h (last_rule f).number).end;
@@ -115,6 +173,8 @@ abbrev pub by_rule_gone : Aba → ℕ → ℕ → Brought
 by_rule_gone f h n = record {
   assumption = λ x. ⊥;
   contrary = λ x y. ⊥;
+  contrary_step = λ x i j. ⊥;
+  contrary_end = λ x i. ⊥;
   rule = λ r P. ⊥;
   step = λ x i j. (x ≡ h) × IsPlaceBefore (Heads f h) n i × IsNextAfter (Heads f h) n j;
   end = λ x i. (x ≡ h) × IsPlaceBefore (Heads f h) n i × HasNoneAfter (Heads f h) n;

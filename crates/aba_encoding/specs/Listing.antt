@@ -1,11 +1,12 @@
 -- The needed axioms in the order in which they are listed, part by part.
-use Rattle.std.specs.Prelude.{◌≡◌, ℕ, ◌+◌, ◌==◌, List, [], ◌∷◌, ◌++◌, filter, map}
+use Rattle.std.specs.Prelude.{◌≡◌, ℕ, ◌+◌, ◌==◌, Bool, true, false, List, [], ◌∷◌, ◌++◌, filter, map}
 use Rattle.std.specs.List.{flat_map, range_with_len}
 use Rattle.semantics.specs.AbaFrameworks.{Aba}
 use Rattle.semantics.specs.Rules.{Rule}
 use Rattle.meaning_atoms.specs.declared.atom.Closure.TheVariants.{Own, Rest}
 use Rattle.meaning_atoms.specs.declared.aba_axiom.AbaAxiom.{AbaAxiom}
-use Rattle.meaning_atoms.specs.declared.aba_axiom.AbaAxiom.TheVariants.{B1, B2, B3, B4, B5, B6, B7, B8, B9, B9Con, B10, B11, B12, B13, B14, B15, B16}
+use Rattle.meaning_atoms.specs.declared.aba_axiom.AbaAxiom.TheVariants.{B1, B2, B3, B4, B5, B6, B7, B8, B9, B9Con, B10, B11, B12, B13, B14, B15, B16, B18, B19}
+use Rattle.edit_rules.specs.AbaEdits.{contraries_of}
 use Rattle.meaning_atoms.specs.declared.axiom.AxiomName.{AxiomName}
 use Rattle.meaning_atoms.specs.declared.axiom.AxiomName.TheVariants.{Aba as OfAba}
 
@@ -19,10 +20,17 @@ module _ {X : Type 0} where
 abbrev pub common_axioms : List AbaAxiom
 common_axioms = B4 Own ∷ B4 Rest ∷ B16 1 ∷ B16 2 ∷ B16 3 ∷ []
 
--- those of an assumption and its contrary
-abbrev pub contrary_axioms : ℕ × ℕ → List AbaAxiom
-contrary_axioms p =
-    B2 p.0 ∷ B3 p.0 p.1 ∷ B9Con p.0 p.1 ∷ B12 p.0 p.1 ∷ B13 p.0 p.1 ∷ B14 p.0 p.1 ∷ B15 p.0 p.1 ∷ []
+-- those of an assumption
+abbrev pub contrary_step : ℕ → ℕ → ℕ → List AbaAxiom
+contrary_step a i c = B9Con a c ∷ B12 a c ∷ B13 a c ∷ B18 Own a i c ∷ B18 Rest a i c ∷ []
+
+abbrev pub contrary_end : ℕ → ℕ → List AbaAxiom
+contrary_end a i = B19 Own a i ∷ B19 Rest a i ∷ []
+
+abbrev pub assumption_axioms : Aba → ℕ → List AbaAxiom
+assumption_axioms f a =
+    B2 a ∷ B3 a ∷ B14 a ∷ B15 a
+    ∷ walk_along (contrary_step a) (contrary_end a) 1 (contraries_of f.contraries a)
 
 -- those of a rule
 abbrev pub body_step : ℕ → ℕ → ℕ → List AbaAxiom
@@ -54,9 +62,14 @@ atom_axioms f x = B1 x ∷ B9 Own x ∷ B9 Rest x ∷ walk_along (head_step x) (
 abbrev pub listed_axioms : Aba → List AbaAxiom
 listed_axioms f =
     common_axioms
-    ++ (flat_map contrary_axioms f.contraries
+    ++ (flat_map (assumption_axioms f) f.assumptions
     ++ (flat_map rule_axioms f.rules ++ flat_map (atom_axioms f) (range_with_len 1 f.atoms)))
 
 -- the list has gained these axioms, in this order
 abbrev pub Gains : List AbaAxiom → List AxiomName → List AxiomName → Type 0
 Gains axioms old new = new ≡ old ++ map OfAba axioms
+
+-- the axioms, if the condition holds
+abbrev pub only_if : Bool → List AbaAxiom → List AbaAxiom
+only_if true axioms = axioms
+only_if false axioms = []

@@ -7,22 +7,24 @@ ghost use Rattle.aba_notions.specs.Storage.{rule_at};
 ghost use Rattle.meaning_atoms.specs.declared.axiom.AxiomName.{AxiomName as AName};
 ghost use Rattle.af_encoding.specs.Changes.{IsCalledFor, IsEffectOf};
 ghost use Rattle.aba_encoding.specs.Brought.{GainsBrought, GainsCalled, IsEdited};
-ghost use Rattle.aba_encoding.specs.Brought.{by_assumption, by_contrary, by_last_rule, by_rule_gone, by_rule_head};
+ghost use Rattle.aba_encoding.specs.Brought.{by_assumption, by_last_rule, by_rule_gone, by_rule_head};
 
+use crate::contrary_changes::{push_added, push_gone, push_set};
+use crate::needed_axioms::{push_all, push_assumption, push_rule};
 use crate::places::{next_after, place_before};
-use crate::{push_all, push_rule};
 use aba_notions::AbaPlain;
 use edit_rules::{Edit, Effect};
 use lists::{Items, Memory};
-use meaning_atoms::AbaAxiom::{B2, B3, B9Con, B10, B11, B12, B13, B14, B15};
+use meaning_atoms::AbaAxiom::{B10, B11};
 use meaning_atoms::AxiomName;
 use meaning_atoms::Closure::{Own, Rest};
 use std::alloc::Global;
 
 /// The axioms that a search needs of a framework behind an edit and did not need before it. `plain` is the framework
 /// behind the edit, and `effect` what the edit did. They are those of the assumption, the contrary or the rule that
-/// came, and those of the steps round the rule that came or went, which are found from its neighbours among the rules
-/// that head the same atom, in time logarithmic in the rules. `Memory` says that an allocation was refused.
+/// came, and those of the steps round the contrary or the rule that came or went. The steps are found from its neighbours
+/// among the contraries of the same assumption or the rules that head the same atom, in time logarithmic in these
+/// contraries and in the rules. `Memory` says that an allocation was refused.
 pub fn changed(alloc: Global, plain: &AbaPlain, effect: &Effect) -> Result<Items<AxiomName>, Memory>
     requires { IsEdited (aba plain.now) effect.now }
     ensures { IfOk result (λ names. (before : Aba) → IsNumberedAba before
@@ -45,9 +47,19 @@ fn push_changed(
     ensures { OnOk result (GainsCalled plain.now effect.now names.old.items names.new.items) }
 {
     match &effect.edit {
-        Edit::AsmAdd(assumption, contrary) => push_assumption(alloc, names, *assumption, *contrary),
-        Edit::ConSet(assumption, contrary) => {
-            push_contrary(alloc, names, *assumption, *contrary, effect.gone)
+        Edit::AsmAdd(assumption, _) => push_whole(alloc, plain, names, *assumption),
+        Edit::ConSet(assumption, contrary) => push_set(
+            alloc,
+            names,
+            *assumption,
+            *contrary,
+            effect.gone.as_slice(),
+        ),
+        Edit::ConAdd(assumption, contrary) => {
+            push_added(alloc, plain, names, *assumption, *contrary)
+        }
+        Edit::ConDrop(assumption, contrary) => {
+            push_gone(alloc, plain, names, *assumption, *contrary)
         }
         Edit::RuleAdd(head, _) => push_last_rule(alloc, plain, names, *head),
         Edit::RuleDrop(number) => push_past(alloc, plain, names, effect.head, *number),
@@ -58,57 +70,17 @@ fn push_changed(
     }
 }
 
-/// Adds the axioms of an assumption that came, with its contrary.
-fn push_assumption(
+/// Adds the axioms of an assumption that came, with those of its contraries.
+fn push_whole(
     alloc: Global,
+    plain: &AbaPlain,
     names: &mut Vec<AxiomName>,
     assumption: u32,
-    contrary: u32,
 ) -> Result<(), Memory>
-    ensures { OnOk result (GainsBrought (by_assumption assumption contrary) names.old.items names.new.items) }
+    ensures { OnOk result (GainsBrought (by_assumption plain.now assumption) names.old.items names.new.items) }
 {
-    let (a, c) = (assumption, contrary);
-    push_all(
-        alloc,
-        names,
-        &[
-            B2(a),
-            B3(a, c),
-            B9Con(a, c),
-            B12(a, c),
-            B13(a, c),
-            B14(a, c),
-            B15(a, c),
-        ],
-    )
-}
-
-/// Adds the axioms of another contrary of an assumption. The contrary that it had before calls for none.
-fn push_contrary(
-    alloc: Global,
-    names: &mut Vec<AxiomName>,
-    assumption: u32,
-    contrary: u32,
-    gone: u32,
-) -> Result<(), Memory>
-    ensures { OnOk result (GainsBrought (by_contrary assumption contrary gone) names.old.items names.new.items) }
-{
-    if contrary == gone {
-        return Ok(());
-    }
-    let (a, c) = (assumption, contrary);
-    push_all(
-        alloc,
-        names,
-        &[
-            B3(a, c),
-            B9Con(a, c),
-            B12(a, c),
-            B13(a, c),
-            B14(a, c),
-            B15(a, c),
-        ],
-    )
+    let _next = plain.next();
+    push_assumption(alloc, plain, names, assumption)
 }
 
 /// Adds the axioms of the last rule, which came, and of the steps round it of the walk along the rules that head its

@@ -15,7 +15,8 @@ ghost use Rattle.oracle_face.specs.Needed.{IsNeeded};
 ghost use Rattle.aba_encoding.specs.AbaModels.{DescribesInAba, IsFounded, IsModelOfSetInAba};
 
 /// The set that a model is read as, where what it derives is founded, has each mode that the model affirms; each
-/// assumption is a member and each atom is in a closure of the set exactly where the model affirms it.
+/// assumption is a member and each atom is in a closure of the set exactly where the model affirms it; and the set
+/// attacks each assumption that the model calls hit.
 pub fn models_describe()
     ensures { (f : Aba) (values : List AtomLit) (set : List ℕ) → IsNumberedAba f → IsModelOf (aba f) values
         → IsSetOf (IsDecoded Asm values) set → ((k : Closure) → IsFounded f values set k)

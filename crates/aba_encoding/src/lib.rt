@@ -4,6 +4,7 @@
 
 mod affirming;
 mod changing;
+mod contrary_changes;
 mod decoding;
 mod encoding;
 pub mod laws;
@@ -15,4 +16,4 @@ pub use changing::changed;
 pub use decoding::decode;
 pub use encoding::AbaEncoding;
 pub use loops::missing;
-pub use needed_axioms::{needed, push_all, push_rule};
+pub use needed_axioms::needed;

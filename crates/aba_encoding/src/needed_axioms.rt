@@ -8,12 +8,12 @@ ghost use Rattle.aba_notions.specs.Storage.{rule_at};
 ghost use Rattle.af_encoding.specs.Enumerations.{Enumerates};
 ghost use Rattle.semantics.specs.Frameworks.{aba};
 ghost use Rattle.oracle_face.specs.Needed.{IsNeeded};
-ghost use Rattle.aba_encoding.specs.Listing.{Gains, atom_axioms, contrary_axioms, rule_axioms};
+ghost use Rattle.aba_encoding.specs.Listing.{Gains, assumption_axioms, atom_axioms, rule_axioms};
 
 use aba_notions::AbaPlain;
 use lists::{Items, Memory};
 use meaning_atoms::AbaAxiom::{
-    B1, B2, B3, B4, B5, B6, B7, B8, B9, B9Con, B10, B11, B12, B13, B14, B15, B16,
+    B1, B2, B3, B4, B5, B6, B7, B8, B9, B9Con, B10, B11, B12, B13, B14, B15, B16, B18, B19,
 };
 use meaning_atoms::Closure::{Own, Rest};
 use meaning_atoms::{AbaAxiom, AxiomName};
@@ -21,9 +21,9 @@ use std::alloc::Global;
 
 /// The axioms that a search needs of a framework, each once: a model of these axioms that derives nothing unfounded,
 /// and in which the framework's facts have their values, means a set of assumptions with each notion that the model
-/// calls true. Time and memory are linear in the assumptions, the atoms and the rules with their bodies: five axioms of all,
-/// seven of each assumption, five of each atom, six of each rule and four of each atom in a body. `Memory` says that an
-/// allocation was refused.
+/// calls true. Time and memory are linear in the assumptions, their contraries, the atoms and the rules with their
+/// bodies: five axioms of all, six of each assumption, five of each contrary of one, five of each atom, six of each rule
+/// and four of each atom in a body. `Memory` says that an allocation was refused.
 pub fn needed(alloc: Global, plain: &AbaPlain) -> Result<Items<AxiomName>, Memory>
     ensures all { IfOk result (Enumerates (IsNeeded (aba plain.now))) }
     ensures names { IfOk result (All IsAxiomName) }
@@ -34,38 +34,60 @@ pub fn needed(alloc: Global, plain: &AbaPlain) -> Result<Items<AxiomName>, Memor
         &mut names,
         &[B4(Own), B4(Rest), B16(1), B16(2), B16(3)],
     )?;
-    push_contraries(alloc, plain, &mut names)?;
+    push_assumptions(alloc, plain, &mut names)?;
     push_rules(alloc, plain, &mut names)?;
     push_atoms(alloc, plain, &mut names)?;
     Ok(Items::from_vec(names))
 }
 
 /// Adds the axioms of the assumptions and their contraries.
-fn push_contraries(
+fn push_assumptions(
     alloc: Global,
     plain: &AbaPlain,
     names: &mut Vec<AxiomName>,
 ) -> Result<(), Memory>
-    ensures gains { OnOk result (Gains (flat_map contrary_axioms plain.now.contraries)
+    ensures gains { OnOk result (Gains (flat_map (assumption_axioms plain.now) plain.now.assumptions)
         names.old.items names.new.items) }
     ensures form { IsNumberedAba plain.now }
 {
-    for pair in plain.contraries() {
-        let (a, c) = *pair;
+    for a in plain.assumptions().as_slice() {
+        push_assumption(alloc, plain, names, *a)?;
+    }
+    Ok(())
+}
+
+/// Adds the axioms of an assumption: those of it alone, then by rising contraries those of each with the steps of the
+/// walks from the contrary before, and the ends of the walks.
+pub fn push_assumption(
+    alloc: Global,
+    plain: &AbaPlain,
+    names: &mut Vec<AxiomName>,
+    a: u32,
+) -> Result<(), Memory>
+    ensures { OnOk result (Gains (assumption_axioms plain.now a) names.old.items names.new.items) }
+{
+    push_all(alloc, names, &[B2(a), B3(a), B14(a), B15(a)])?;
+    let mut position = 1;
+    for pair in plain.contraries_of(a) {
+        let c = pair.1;
         push_all(
             alloc,
             names,
             &[
-                B2(a),
-                B3(a, c),
                 B9Con(a, c),
                 B12(a, c),
                 B13(a, c),
-                B14(a, c),
-                B15(a, c),
+                B18(Own, a, position, c),
+                B18(Rest, a, position, c),
             ],
         )?;
+        position = c + 1;
     }
+    push_all(
+        alloc,
+        names,
+        &[B19(Own, a, position), B19(Rest, a, position)],
+    )?;
     Ok(())
 }
 
