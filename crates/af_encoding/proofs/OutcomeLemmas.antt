@@ -18,7 +18,7 @@ use Rattle.edit_rules.proofs.EditTests.{pair_there, there_pair, within_bounds}
 use Rattle.edit_rules.proofs.RefusalLemmas.{done_passes}
 use Rattle.edit_rules.proofs.ReplayLemmas.{af_of}
 use Rattle.edit_rules.proofs.NumberLists.{with_number_members}
-use Rattle.edit_rules.proofs.RowForms.{with_pair_members}
+use Rattle.edit_rules.proofs.PairLists.{with_pair_members}
 use Rattle.af_encoding.specs.Changes.{IsAlone, IsCalledByAttack, IsCalledByLoss, IsCalledByPairs, IsCalledFor, IsEffectOf}
 use Rattle.af_encoding.proofs.ChangeLemmas.{GainsArgument, IsGainedRow, IsLostRow, IsSameRow, LosesArgument, by_argument, by_attack, by_loss, by_new_argument}
 use Rattle.lists.proofs.TruthValues.{both_from}

@@ -19,7 +19,7 @@ use Rattle.edit_rules.specs.Pairs.{has_pair}
 use Rattle.edit_rules.specs.Edits.{attack_added, attack_dropped, edit_outcome, end_refusals, outside, unknown}
 use Rattle.edit_rules.specs.Replay.{IsTaken, after_edit, left_by, replay}
 use Rattle.edit_rules.proofs.EditTests.{bounds_within, pair_there, there_pair}
-use Rattle.edit_rules.proofs.RowForms.{with_pair_members}
+use Rattle.edit_rules.proofs.PairLists.{with_pair_members}
 
 -- an edit that adds an attack or drops one
 abbrev pub IsMove : Edit → Type 0
