@@ -5,6 +5,7 @@ pub mod WorldModels
 pub mod ListingLemmas
 pub mod RuleLemmas
 pub mod WalkLemmas
+pub mod ContraryLemmas
 pub mod NeededLemmas
 pub mod OrderLemmas
 pub mod Enumerated

@@ -3,7 +3,7 @@
 use Rattle.std.proofs.Common.{◌≡◌, ◌+◌, ◌⊎◌, ℕ, Bool, true, false, List, [], ◌∷◌, arith, refl, subst, sym}
 use Rattle.std.proofs.Common.{inl, inr, ⊎_elim}
 use Rattle.std.specs.Prelude.{Contains, ◌↔◌}
-use Rattle.std.proofs.lemmas.Bool.{cases_eq, false≢true}
+use Rattle.std.proofs.lemmas.Bool.{false≢true}
 use Rattle.lists.specs.Members.{IsSetOf}
 use Rattle.lists.proofs.Membership.{Contains-nil, Contains-cons_cases}
 use Rattle.semantics.specs.AbaFrameworks.{Aba, AttacksAssumption, IsAtom, IsNumberedAba, collective_of}
@@ -14,9 +14,9 @@ use Rattle.aba_laws.proofs.CollectiveSets.{defends_by_rest, rest_of}
 use Rattle.aba_laws.proofs.DerivationLemmas.{derives_more}
 use Rattle.semantics.specs.Frameworks.{aba}
 use Rattle.meaning_atoms.specs.declared.aba_axiom.AbaAxiom.{AbaAxiom}
-use Rattle.meaning_atoms.specs.declared.aba_axiom.AbaAxiom.TheVariants.{B1, B2, B3, B4, B5, B7, B8, B12, B13, B14, B15, B16}
+use Rattle.meaning_atoms.specs.declared.aba_axiom.AbaAxiom.TheVariants.{B1, B2, B3, B4, B5, B7, B8, B12, B13, B14, B15, B16, B18, B19}
 use Rattle.meaning_atoms.specs.declared.atom.Atom.{Atom}
-use Rattle.meaning_atoms.specs.declared.atom.Atom.TheVariants.{Member, Range, Tail, Asm, Con, Head, BGap, Der, Miss, Cf, Ad, Co, St}
+use Rattle.meaning_atoms.specs.declared.atom.Atom.TheVariants.{Member, Range, Tail, Asm, Con, ConGap, Head, BGap, Der, Miss, Hit, Cf, Ad, Co, St}
 use Rattle.meaning_atoms.specs.declared.atom.AtomLit.{AtomLit}
 use Rattle.meaning_atoms.specs.declared.atom.Closure.{Closure}
 use Rattle.meaning_atoms.specs.declared.atom.Closure.TheVariants.{Own, Rest}
@@ -32,10 +32,11 @@ use Rattle.oracle_face.specs.Goals.{IsMode}
 use Rattle.af_encoding.specs.Decoded.{Affirms}
 use Rattle.oracle_face.specs.AbaNeeded.{IsNeededOfAba}
 use Rattle.oracle_face.specs.Walks.{IsWalkEnd, IsWalkStep}
+use Rattle.edit_rules.specs.AbaEdits.{contraries_of}
+use Rattle.aba_encoding.proofs.ContraryLemmas.{contraries_ahead, contrary_low, contrary_under}
 use Rattle.aba_encoding.proofs.NeededLemmas.{body_ahead, body_low, body_under}
 use Rattle.aba_encoding.proofs.WalkLemmas.{walk_on}
 use Rattle.aba_encoding.specs.AbaModels.{DescribesInAba, IsFounded}
-use Rattle.lists.proofs.Images.{image_from}
 
 abbrev literal : Atom → Bool → AtomLit
 literal atom positive = record { atom = atom; positive = positive }
@@ -104,25 +105,6 @@ module _ (f : Aba) (values : List AtomLit) (model : IsModelOf (aba f) values) wh
       ⊎_elim (λ here. absurd (not_denied atom fact so here)) (λ told. told)
       (model.told (OfAba name) (denied atom) needed c fact)
 
-  -- ---- the framework's contraries
-
-  pub some_contrary : IsNumberedAba f → (a : ℕ) → Contains f.assumptions a → (c : ℕ) × HasContrary f a c
-  some_contrary form a c =
-      let from = image_from (λ (p : ℕ × ℕ). p.0) f.contraries a
-      (subst (λ xs. Contains xs a) (sym form.form.one_contrary) c) in
-      (from.0.1, subst (λ n. Contains f.contraries (n, from.0.1)) from.2 from.1)
-
-  -- 0 is in no closure
-  pub nothing_affirmed : (k : Closure) → Affirms values (Der k 0) → ⊥
-  nothing_affirmed k told = consistent (Der k 0) told (last_one (denied (Der k 0)) (satisfied (B4 k) tt))
-
-  -- what a closure claims of a contrary it claims of an atom
-  pub contrary_atom : IsNumberedAba f → (k : Closure) (a c : ℕ) → HasContrary f a c → Affirms values (Der k c)
-      → IsAtom f.atoms c
-  contrary_atom form k a c con told =
-      ⊎_elim (λ (e : c ≡ 0). absurd (nothing_affirmed k (subst (λ x. Affirms values (Der k x)) e told)))
-      (λ ne. record { low = omega (arith, ne); high = form.form.contraries_are a c con }) (cases_eq c 0)
-
   -- an assumption is affirmed to be one
   pub assumption_told : IsNumberedAba f → (a : ℕ) → Contains f.assumptions a → Affirms values (Asm a)
   assumption_told form a c =
@@ -153,6 +135,30 @@ module _ (f : Aba) (values : List AtomLit) (model : IsModelOf (aba f) values) wh
       (first_or_later (affirmed (Miss k r.number 1)) (affirmed (Der k r.head) ∷ [])
       (fact_here (Head r.number r.head) _ tt (rule (λ q. q.head ≡ r.head) refl)
       (satisfied (B5 k r.number r.head) (rule (λ q. q.head ≡ r.head) refl))))
+
+  -- ---- a contrary of an assumption that is hit is affirmed
+
+  -- a contrary which the values affirm to be in the closure
+  pub record IsHit (k : Closure) (a : ℕ) : Type 0 where
+    pub contrary : ℕ
+    pub is : HasContrary f a contrary
+    pub told : Affirms values (Der k contrary)
+
+  pub hit_told : IsNumberedAba f → (k : Closure) (a : ℕ) → Contains f.assumptions a → Affirms values (Hit k a 1)
+      → IsHit k a
+  hit_told form k a live hit =
+      walk_on (HasContrary f a) (contrary_low f form a) (contrary_under f form a) (λ i. Affirms values (Hit k a i))
+      (IsHit k a)
+      (λ i j step on. ⊎_elim
+      (λ derived. inr (record { contrary = j; is = step.stop; told = derived }))
+      (λ later. inl (last_one (affirmed (Hit k a (j + 1))) later))
+      (first_or_later (affirmed (Der k j)) (affirmed (Hit k a (j + 1)) ∷ [])
+      (fact_here (ConGap a i j) _ tt (record { assumption = live; none = step.gap })
+      (affirmed_here (Hit k a i) _ on (satisfied (B18 k a i j) (live, step))))))
+      (λ i end on. absurd (none_left
+      (fact_here (ConGap a i 1000001) [] tt (record { assumption = live; none = end.gap })
+      (affirmed_here (Hit k a i) _ on (satisfied (B19 k a i) (live, end))))))
+      1 (contraries_of f.contraries a) (contraries_ahead f form a) hit
 
 module _ (f : Aba) (values : List AtomLit) (s : List ℕ) (form : IsNumberedAba f) (model : IsModelOf (aba f) values)
     (decoded : IsSetOf (IsDecoded Asm values) s) where
@@ -187,18 +193,19 @@ module _ (f : Aba) (values : List AtomLit) (s : List ℕ) (form : IsNumberedAba 
   own_told = derived_told (Contains s) Own own_given_told
 
   module _ (own : IsFounded f values s Own) where
-    -- a contrary that is affirmed to be in the set's closure is there
-    own_contrary : (a c : ℕ) → HasContrary f a c → Affirms values (Der Own c) → AttacksAssumption f s a
-    own_contrary a c con told =
-        attacks_by f form.form s a c con (own c (contrary_atom f values model form Own a c con told) told)
+    -- what is affirmed to be hit is attacked
+    pub hit_attacked : (a : ℕ) → Contains f.assumptions a → Affirms values (Hit Own a 1) → AttacksAssumption f s a
+    hit_attacked a live hit =
+        let w = hit_told f values model form Own a live hit in
+        attacks_by f form.form s a w.contrary w.is
+        (own w.contrary (form.form.contraries_are a w.contrary w.is).1 w.told)
 
     rest_given_told : (x : ℕ) → IsUnattacked (collective_of f) s x → Affirms values (Der Rest x)
     rest_given_told x u =
-        let w = some_contrary f values model form x u.live in
-        ⊎_elim (λ derived. absurd (u.quiet (own_contrary x w.0 w.1 derived)))
+        ⊎_elim (λ hit. absurd (u.quiet (hit_attacked x u.live hit)))
         (λ later. last_one f values model (affirmed (Der Rest x)) later)
-        (first_or_later f values model (affirmed (Der Own w.0)) (affirmed (Der Rest x) ∷ [])
-        (fact_here f values model (Con x w.0) _ tt w.1 (satisfied f values model (B3 x w.0) w.1)))
+        (first_or_later f values model (affirmed (Hit Own x 1)) (affirmed (Der Rest x) ∷ [])
+        (fact_here f values model (Asm x) _ tt u.live (satisfied f values model (B3 x) u.live)))
 
     pub rest_told : (x : ℕ) → Derives f.rules (IsUnattacked (collective_of f) s) x → Affirms values (Der Rest x)
     rest_told = derived_told (IsUnattacked (collective_of f) s) Rest rest_given_told
@@ -231,13 +238,14 @@ module _ (f : Aba) (values : List AtomLit) (s : List ℕ) (form : IsNumberedAba 
           (derives_more f.rules (Contains made.0) (IsUnattacked (collective_of f) s) (λ y c. (made.1 y).0 c) at.contrary
           at.derived)))
 
-      not_told : (a c : ℕ) → HasContrary f a c → Defends (collective_of f) s a → Affirms values (Der Rest c) → ⊥
-      not_told a c con defends told =
+      not_hit : (a : ℕ) → Contains f.assumptions a → Defends (collective_of f) s a → Affirms values (Hit Rest a 1) → ⊥
+      not_hit a live defends hit =
+          let w = hit_told f values model form Rest a live hit in
           let made = rest_of (collective_of f) (aba_lawful f) s in
           (defends_by_rest (collective_of f) (aba_lawful f) s made.0 a made.1).0 defends
-          (attacks_by f form.form made.0 a c con
-          (derives_more f.rules (IsUnattacked (collective_of f) s) (Contains made.0) (λ y u. (made.1 y).1 u) c
-          (rest c (contrary_atom f values model form Rest a c con told) told)))
+          (attacks_by f form.form made.0 a w.contrary w.is
+          (derives_more f.rules (IsUnattacked (collective_of f) s) (Contains made.0) (λ y u. (made.1 y).1 u) w.contrary
+          (rest w.contrary (form.form.contraries_are a w.contrary w.is).1 w.told)))
 
       admissible_so : Affirms values Ad → IsAdmissible (collective_of f) s
       admissible_so told = record {
@@ -256,13 +264,11 @@ module _ (f : Aba) (values : List AtomLit) (s : List ℕ) (form : IsNumberedAba 
         admissible = admissible_so
             (last_one f values model (affirmed Ad)
             (affirmed_here f values model Co _ told (satisfied f values model (B16 2) (omega arith, omega arith))));
-        closed = λ a live defends.
-            let w = some_contrary f values model form a live in
-            ⊎_elim (λ derived. absurd (not_told a w.0 w.1 defends derived))
+        closed = λ a live defends. ⊎_elim (λ hit. absurd (not_hit a live defends hit))
             (λ later. told_member a live (last_one f values model (affirmed (Member a)) later))
-            (first_or_later f values model (affirmed (Der Rest w.0)) (affirmed (Member a) ∷ [])
-            (fact_here f values model (Con a w.0) _ tt w.1
-            (affirmed_here f values model Co _ told (satisfied f values model (B14 a w.0) w.1))));
+            (first_or_later f values model (affirmed (Hit Rest a 1)) (affirmed (Member a) ∷ [])
+            (fact_here f values model (Asm a) _ tt live
+            (affirmed_here f values model Co _ told (satisfied f values model (B14 a) live))));
       }
 
       stable_so : Affirms values St → IsStable (collective_of f) s
@@ -272,13 +278,11 @@ module _ (f : Aba) (values : List AtomLit) (s : List ℕ) (form : IsNumberedAba 
           (affirmed_here f values model St _ told (satisfied f values model (B16 3) (omega arith, omega arith)))) in
           record {
             conflict_free = complete.admissible.conflict_free;
-            attacks_outside = λ a live out.
-                let w = some_contrary f values model form a live in
-                ⊎_elim (λ member. absurd (out (told_member a live member)))
-                (λ later. own_contrary a w.0 w.1 (last_one f values model (affirmed (Der Own w.0)) later))
-                (first_or_later f values model (affirmed (Member a)) (affirmed (Der Own w.0) ∷ [])
-                (fact_here f values model (Con a w.0) _ tt w.1
-                (affirmed_here f values model St _ told (satisfied f values model (B15 a w.0) w.1))));
+            attacks_outside = λ a live out. ⊎_elim (λ member. absurd (out (told_member a live member)))
+                (λ later. hit_attacked a live (last_one f values model (affirmed (Hit Own a 1)) later))
+                (first_or_later f values model (affirmed (Member a)) (affirmed (Hit Own a 1) ∷ [])
+                (fact_here f values model (Asm a) _ tt live
+                (affirmed_here f values model St _ told (satisfied f values model (B15 a) live))));
           }
 
       -- ---- all of it
@@ -295,6 +299,7 @@ module _ (f : Aba) (values : List AtomLit) (s : List ℕ) (form : IsNumberedAba 
         modes = modes_so;
         members = λ a live. (told_member a live, member_told a);
         closures = closures_are;
+        attacked = hit_attacked;
       }
 
       says_so : (atom : Atom) (positive : Bool) → Contains values (literal atom positive)

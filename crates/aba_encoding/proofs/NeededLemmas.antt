@@ -13,18 +13,19 @@ use Rattle.semantics.specs.Rules.{Rule}
 use Rattle.meaning_atoms.specs.declared.atom.Closure.{Closure}
 use Rattle.meaning_atoms.specs.declared.atom.Closure.TheVariants.{Own, Rest}
 use Rattle.meaning_atoms.specs.declared.aba_axiom.AbaAxiom.{AbaAxiom}
-use Rattle.meaning_atoms.specs.declared.aba_axiom.AbaAxiom.TheVariants.{B1, B2, B3, B4, B5, B6, B7, B8, B9, B9Con, B10, B11, B12, B13, B14, B15, B16, B17}
+use Rattle.meaning_atoms.specs.declared.aba_axiom.AbaAxiom.TheVariants.{B1, B2, B3, B4, B5, B6, B7, B8, B9, B9Con, B10, B11, B12, B13, B14, B15, B16, B17, B18, B19}
 use Rattle.meaning_atoms.specs.declared.axiom.AxiomName.{AxiomName}
 use Rattle.meaning_atoms.specs.declared.axiom.AxiomName.TheVariants.{Af as OfAf, Aba as OfAba}
 use Rattle.meaning_atoms.specs.AbaAxioms.{IsAbaAxiom}
 use Rattle.meaning_atoms.specs.AbaReadings.{HasContrary, HasRule}
 use Rattle.meaning_atoms.specs.AxiomNames.{IsAxiomName}
-use Rattle.aba_axioms.proofs.FrameworkLemmas.{has_assumption}
 use Rattle.semantics.specs.Frameworks.{aba}
 use Rattle.oracle_face.specs.AbaNeeded.{Heads, IsNeededOfAba}
 use Rattle.oracle_face.specs.Needed.{IsNeeded}
-use Rattle.aba_encoding.specs.Listing.{atom_axioms, body_end, body_step, common_axioms, contrary_axioms, head_end, head_step, heading, listed_axioms, rule_axioms, walk_along}
+use Rattle.aba_encoding.specs.Listing.{assumption_axioms, atom_axioms, body_end, body_step, common_axioms, contrary_end, contrary_step, head_end, head_step, heading, listed_axioms, rule_axioms, walk_along}
 use Rattle.oracle_face.specs.Walks.{IsWalkStep, IsWalkEnd}
+use Rattle.edit_rules.specs.AbaEdits.{contraries_of}
+use Rattle.aba_encoding.proofs.ContraryLemmas.{contraries_ahead, contrary_low, contrary_under}
 use Rattle.aba_encoding.proofs.ListingLemmas.{heading_are, heading_rises}
 use Rattle.aba_encoding.proofs.WalkLemmas.{AreAhead, all_ahead, along_from, end_there, start_high, start_position, step_there, step_to}
 use Rattle.lists.proofs.Images.{image_there, image_from, in_flat, flat_from}
@@ -103,10 +104,23 @@ module _ (f : Aba) (form : IsNumberedAba f) where
     ),
   )
 
-  contrary_from : (p : ℕ × ℕ) → Contains f.contraries p → (name : AbaAxiom) → Contains (contrary_axioms p) name
+  abbrev own_axioms : ℕ → List AbaAxiom
+  own_axioms a = B2 a ∷ B3 a ∷ B14 a ∷ B15 a ∷ []
+
+  abbrev contrary_walk : ℕ → List AbaAxiom
+  contrary_walk a = walk_along (contrary_step a) (contrary_end a) 1 (contraries_of f.contraries a)
+
+  assumption_from : (a : ℕ) → Contains f.assumptions a → (name : AbaAxiom) → Contains (assumption_axioms f a) name
       → IsNeededOfAba f name
-  contrary_from (a, c) con = listed (IsNeededOfAba f) (contrary_axioms (a, c))
-      (has_assumption f form.form a c con, (con, (con, (con, (con, (con, (con, tt)))))))
+  assumption_from a is name c =
+      ⊎_elim (listed (IsNeededOfAba f) (own_axioms a) (is, (is, (is, (is, tt)))) name)
+      (λ later. ⊎_elim
+      (λ on. listed (IsNeededOfAba f) (contrary_step a on.from on.stop)
+      (on.is.stop, (on.is.stop, (on.is.stop, ((is, on.is), ((is, on.is), tt))))) name on.item)
+      (λ at. listed (IsNeededOfAba f) (contrary_end a at.from) ((is, at.is), ((is, at.is), tt)) name at.item)
+      (along_from (HasContrary f a) (contrary_low f form a) (contrary_under f form a) (contrary_step a) (contrary_end a)
+      1 (contraries_of f.contraries a) (contraries_ahead f form a) name later))
+      (Contains-append_cases (own_axioms a) (contrary_walk a) name c)
 
   has_rule : (P : Rule → Type 0) (r : Rule) → Contains f.rules r → P r → HasRule f r.number P
   has_rule P r there h = record { rule = r; there = there; numbered = refl; says = h }
@@ -171,51 +185,64 @@ module _ (f : Aba) (form : IsNumberedAba f) where
       let at = get_or-range_with_len 1 f.atoms (x - 1) x (omega arith) in
       (x - 1, omega arith, omega arith)
 
-  contraries_part : List AbaAxiom
-  contraries_part = flat_map contrary_axioms f.contraries
-
   pub listed_from : (name : AbaAxiom) → Contains (listed_axioms f) name → IsNeededOfAba f name
   listed_from name c =
-      let contraries = flat_map contrary_axioms f.contraries in
+      let assumptions = flat_map (assumption_axioms f) f.assumptions in
       let rules = flat_map rule_axioms f.rules in
       let atoms = flat_map (atom_axioms f) (range_with_len 1 f.atoms) in
       ⊎_elim (common_from name)
       (λ c'. ⊎_elim
-      (λ d. let w = flat_from contrary_axioms f.contraries name d in contrary_from w.0 w.1 name w.2)
+      (λ d. let w = flat_from (assumption_axioms f) f.assumptions name d in assumption_from w.0 w.1 name w.2)
       (λ c''. ⊎_elim
       (λ d. let w = flat_from rule_axioms f.rules name d in rule_from w.0 w.1 name w.2)
       (λ d. let w = flat_from (atom_axioms f) (range_with_len 1 f.atoms) name d in
       atom_from w.0 (in_range w.0 w.1) name w.2)
       (Contains-append_cases rules atoms name c''))
-      (Contains-append_cases contraries (rules ++ atoms) name c'))
-      (Contains-append_cases common_axioms (contraries ++ (rules ++ atoms)) name c)
+      (Contains-append_cases assumptions (rules ++ atoms) name c'))
+      (Contains-append_cases common_axioms (assumptions ++ (rules ++ atoms)) name c)
 
   -- ---- what is needed is listed
 
   in_common : (name : AbaAxiom) → Contains common_axioms name → Contains (listed_axioms f) name
   in_common name c = Contains-append_left common_axioms _ name c
 
-  in_contrary : (a c : ℕ) → HasContrary f a c → (name : AbaAxiom) → Contains (contrary_axioms (a, c)) name
+  in_assumption : (a : ℕ) → Contains f.assumptions a → (name : AbaAxiom) → Contains (assumption_axioms f a) name
       → Contains (listed_axioms f) name
-  in_contrary a c con name d =
+  in_assumption a is name d =
       Contains-append_right common_axioms _ name
-      (Contains-append_left (flat_map contrary_axioms f.contraries) _ name
-      (in_flat contrary_axioms f.contraries (a, c) name con d))
+      (Contains-append_left (flat_map (assumption_axioms f) f.assumptions) _ name
+      (in_flat (assumption_axioms f) f.assumptions a name is d))
 
   in_rule : (r : Rule) → Contains f.rules r → (name : AbaAxiom) → Contains (rule_axioms r) name
       → Contains (listed_axioms f) name
   in_rule r there name d =
       Contains-append_right common_axioms _ name
-      (Contains-append_right (flat_map contrary_axioms f.contraries) _ name
+      (Contains-append_right (flat_map (assumption_axioms f) f.assumptions) _ name
       (Contains-append_left (flat_map rule_axioms f.rules) _ name (in_flat rule_axioms f.rules r name there d)))
 
   in_atom : (x : ℕ) → IsAtom f.atoms x → (name : AbaAxiom) → Contains (atom_axioms f x) name
       → Contains (listed_axioms f) name
   in_atom x atom name d =
       Contains-append_right common_axioms _ name
-      (Contains-append_right (flat_map contrary_axioms f.contraries) _ name
+      (Contains-append_right (flat_map (assumption_axioms f) f.assumptions) _ name
       (Contains-append_right (flat_map rule_axioms f.rules) _ name
       (in_flat (atom_axioms f) (range_with_len 1 f.atoms) x name (range_there x atom) d)))
+
+  in_contrary_step : (a : ℕ) → Contains f.assumptions a → (i j : ℕ) → IsWalkStep (HasContrary f a) i j
+      → (name : AbaAxiom) → Contains (contrary_step a i j) name → Contains (listed_axioms f) name
+  in_contrary_step a of i j is name c =
+      in_assumption a of name
+      (Contains-append_right (own_axioms a) (contrary_walk a) name
+      (step_there (HasContrary f a) (contrary_low f form a) (contrary_under f form a) (contrary_step a) (contrary_end a)
+      1 (contraries_of f.contraries a) (contraries_ahead f form a) i j is (contrary_low f form a j is.stop) name c))
+
+  -- what stands at the step to a contrary
+  in_contrary : (a c : ℕ) → HasContrary f a c → (name : AbaAxiom)
+      → ((i : ℕ) → Contains (contrary_step a i c) name) → Contains (listed_axioms f) name
+  in_contrary a c con name there =
+      let w = step_to (HasContrary f a) (contrary_low f form a) (contrary_under f form a) 1
+      (contraries_of f.contraries a) (contraries_ahead f form a) c con (contrary_low f form a c con) in
+      in_contrary_step a (form.form.contraries_are a c con).0 w.0 c w.1 name (there w.0)
 
   in_body_step : (r : Rule) → Contains f.rules r → (i j : ℕ) → IsWalkStep (Contains r.body) i j → (name : AbaAxiom)
       → Contains (body_step r.number i j) name → Contains (listed_axioms f) name
@@ -247,15 +274,8 @@ module _ (f : Aba) (form : IsNumberedAba f) where
 
   pub listed_to : (name : AbaAxiom) → IsNeededOfAba f name → Contains (listed_axioms f) name
   listed_to (B1 a) h = in_atom a h (B1 a) (0, omega arith, refl)
-  listed_to (B2 a) h =
-      let w = some_contrary a h in in_contrary a w.0 w.1 (B2 a) (0, omega arith, refl)
-    where
-      some_contrary : (a : ℕ) → Contains f.assumptions a → (c : ℕ) × HasContrary f a c
-      some_contrary a c =
-          let from = image_from (λ (p : ℕ × ℕ). p.0) f.contraries a
-          (subst (λ xs. Contains xs a) (sym form.form.one_contrary) c) in
-          (from.0.1, subst (λ n. Contains f.contraries (n, from.0.1)) from.2 from.1)
-  listed_to (B3 a c) h = in_contrary a c h (B3 a c) (1, omega arith, refl)
+  listed_to (B2 a) h = in_assumption a h (B2 a) (0, omega arith, refl)
+  listed_to (B3 a) h = in_assumption a h (B3 a) (1, omega arith, refl)
   listed_to (B4 k) h = in_common (B4 k) (by_closure B4 [] (B16 1 ∷ B16 2 ∷ B16 3 ∷ []) k)
   listed_to (B5 k r x) h = of_rule (λ q. q.head ≡ x) (λ n. B5 k n x) r h (λ q there is.
       subst (λ y. Contains (listed_axioms f) (B5 k q.number y)) is
@@ -280,7 +300,7 @@ module _ (f : Aba) (form : IsNumberedAba f) where
   listed_to (B9 k x) h =
       in_atom x h (B9 k x)
       (by_closure (λ k'. B9 k' x) (B1 x ∷ []) (walk_along (head_step x) (head_end x) 1 (heading f x)) k)
-  listed_to (B9Con a c) h = in_contrary a c h (B9Con a c) (2, omega arith, refl)
+  listed_to (B9Con a c) h = in_contrary a c h (B9Con a c) (λ i. (0, omega arith, refl))
   listed_to (B10 k x i j) h =
       in_head_step x h.0 i j h.1 (B10 k x i j) (by_closure (λ k'. B10 k' x i j) [] [] k)
   listed_to (B11 k x i) h =
@@ -289,10 +309,10 @@ module _ (f : Aba) (form : IsNumberedAba f) where
       (walk_along (head_step x) (head_end x) 1 (heading f x)) (B11 k x i)
       (end_there (Heads f x) (heads_low x) (heads_under x) (head_step x) (head_end x) 1 (heading f x) (heads_ahead x)
       i h.1 (B11 k x i) (by_closure (λ k'. B11 k' x i) [] [] k)))
-  listed_to (B12 a c) h = in_contrary a c h (B12 a c) (3, omega arith, refl)
-  listed_to (B13 a c) h = in_contrary a c h (B13 a c) (4, omega arith, refl)
-  listed_to (B14 a c) h = in_contrary a c h (B14 a c) (5, omega arith, refl)
-  listed_to (B15 a c) h = in_contrary a c h (B15 a c) (6, omega arith, refl)
+  listed_to (B12 a c) h = in_contrary a c h (B12 a c) (λ i. (1, omega arith, refl))
+  listed_to (B13 a c) h = in_contrary a c h (B13 a c) (λ i. (2, omega arith, refl))
+  listed_to (B14 a) h = in_assumption a h (B14 a) (2, omega arith, refl)
+  listed_to (B15 a) h = in_assumption a h (B15 a) (3, omega arith, refl)
   listed_to (B16 part) h =
       ⊎_elim (λ (e : part ≡ 1). in_common (B16 part) (2, omega arith, ap B16 (sym e)))
       (λ no. ⊎_elim (λ (e : part ≡ 2). in_common (B16 part) (3, omega arith, ap B16 (sym e)))
@@ -302,6 +322,15 @@ module _ (f : Aba) (form : IsNumberedAba f) where
       let e : part ≡ 3 = omega arith in in_common (B16 part) (4, omega arith, ap B16 (sym e)))
       (cases_eq part 2)) (cases_eq part 1)
   listed_to (B17 k x rows) h = absurd h
+  listed_to (B18 k a i j) h =
+      in_contrary_step a h.0 i j h.1 (B18 k a i j)
+      (by_closure (λ k'. B18 k' a i j) (B9Con a j ∷ B12 a j ∷ B13 a j ∷ []) [] k)
+  listed_to (B19 k a i) h =
+      in_assumption a h.0 (B19 k a i)
+      (Contains-append_right (own_axioms a) (contrary_walk a) (B19 k a i)
+      (end_there (HasContrary f a) (contrary_low f form a) (contrary_under f form a) (contrary_step a) (contrary_end a) 1
+      (contraries_of f.contraries a) (contraries_ahead f form a) i h.1 (B19 k a i)
+      (by_closure (λ k'. B19 k' a i) [] [] k)))
 
   -- ---- what is needed is an axiom
 
@@ -316,11 +345,13 @@ module _ (f : Aba) (form : IsNumberedAba f) where
       let next = form.rules in
       record { low = rule.low; high = omega arith }
 
-  contrary_fits : (a c : ℕ) → HasContrary f a c → IsAbaAxiom (B3 a c)
+  assumption_argument : (a : ℕ) → Contains f.assumptions a → IsArgument a
+  assumption_argument a is = atom_argument a (form.form.assumptions_are a is)
+
+  contrary_fits : (a c : ℕ) → HasContrary f a c → IsAbaAxiom (B12 a c)
   contrary_fits a c con =
-      let few = form.form.contraries_are a c con in
-      let atoms = form.atoms in (
-        atom_argument a (form.form.assumptions_are a (has_assumption f form.form a c con)),
+      let under = contrary_under f form a c con in (
+        assumption_argument a (form.form.contraries_are a c con).0,
         record { high = omega arith },
       )
 
@@ -329,8 +360,8 @@ module _ (f : Aba) (form : IsNumberedAba f) where
 
   pub needed_fits : (name : AbaAxiom) → IsNeededOfAba f name → IsAbaAxiom name
   needed_fits (B1 a) h = atom_argument a h
-  needed_fits (B2 a) h = atom_argument a (form.form.assumptions_are a h)
-  needed_fits (B3 a c) h = contrary_fits a c h
+  needed_fits (B2 a) h = assumption_argument a h
+  needed_fits (B3 a) h = assumption_argument a h
   needed_fits (B4 k) h = tt
   needed_fits (B5 k r x) h = (
     at_number (λ q. q.head ≡ x) r h,
@@ -370,10 +401,23 @@ module _ (f : Aba) (form : IsNumberedAba f) where
   )
   needed_fits (B12 a c) h = contrary_fits a c h
   needed_fits (B13 a c) h = contrary_fits a c h
-  needed_fits (B14 a c) h = contrary_fits a c h
-  needed_fits (B15 a c) h = contrary_fits a c h
+  needed_fits (B14 a) h = assumption_argument a h
+  needed_fits (B15 a) h = assumption_argument a h
   needed_fits (B16 part) h = h
   needed_fits (B17 k x rows) h = absurd h
+  needed_fits (B18 k a i j) h = record {
+    argument = assumption_argument a h.0;
+    from = start_position (HasContrary f a) (contrary_low f form a) (contrary_under f form a) i h.1.start;
+    order = h.1.order;
+    before_end = contrary_under f form a j h.1.stop;
+  }
+  needed_fits (B19 k a i) h = (
+    assumption_argument a h.0,
+    record {
+      low = start_position (HasContrary f a) (contrary_low f form a) (contrary_under f form a) i h.1.start;
+      high = start_high (HasContrary f a) (contrary_low f form a) (contrary_under f form a) i h.1.start;
+    },
+  )
 
   pub needed_is_axiom : (name : AxiomName) → IsNeeded (aba f) name → IsAxiomName name
   needed_is_axiom (OfAba name) h = needed_fits name h

@@ -8,15 +8,16 @@ use Rattle.std.proofs.lemmas.List.Kept.{AllPairs-cons, AllPairs-from_increasing}
 use Rattle.lists.proofs.Membership.{Contains-nil, Contains-head, Contains-tail, Contains-cons_cases}
 use Rattle.semantics.specs.AbaFrameworks.{Aba, IsNumberedAba}
 use Rattle.semantics.specs.Rules.{Rule}
-use Rattle.aba_axioms.proofs.FrameworkLemmas.{has_assumption}
 use Rattle.meaning_atoms.specs.declared.atom.Closure.{Closure}
 use Rattle.meaning_atoms.specs.declared.atom.Closure.TheVariants.{Own, Rest}
 use Rattle.meaning_atoms.specs.declared.aba_axiom.AbaAxiom.{AbaAxiom}
-use Rattle.meaning_atoms.specs.declared.aba_axiom.AbaAxiom.TheVariants.{B1, B2, B3, B4, B5, B6, B7, B8, B9, B9Con, B10, B11, B12, B13, B14, B15, B16, B17}
+use Rattle.meaning_atoms.specs.declared.aba_axiom.AbaAxiom.TheVariants.{B1, B2, B3, B4, B5, B6, B7, B8, B9, B9Con, B10, B11, B12, B13, B14, B15, B16, B17, B18, B19}
 use Rattle.meaning_atoms.specs.declared.axiom.AxiomName.{AxiomName}
 use Rattle.meaning_atoms.specs.declared.axiom.AxiomName.TheVariants.{Af as OfAf, Aba as OfAba}
 use Rattle.af_encoding.proofs.EnumerationLemmas.{all_of_members, pairs_tail}
-use Rattle.aba_encoding.specs.Listing.{atom_axioms, body_end, body_step, common_axioms, contrary_axioms, head_end, head_step, heading, listed_axioms, rule_axioms, walk_along}
+use Rattle.aba_encoding.specs.Listing.{assumption_axioms, atom_axioms, body_end, body_step, common_axioms, contrary_end, contrary_step, head_end, head_step, heading, listed_axioms, rule_axioms, walk_along}
+use Rattle.edit_rules.specs.AbaEdits.{contraries_of}
+use Rattle.aba_encoding.proofs.ContraryLemmas.{contraries_are, contraries_rise, contrary_low, contrary_under}
 use Rattle.aba_encoding.proofs.ListingLemmas.{heading_are, heading_rises}
 use Rattle.aba_encoding.proofs.WalkLemmas.{later_more}
 use Rattle.lists.proofs.RisingLists.{keys_rise}
@@ -91,55 +92,77 @@ abbrev side : Closure → ℕ
 side Own = 0
 side Rest = 1
 
+abbrev assumption_place : ℕ → ℕ
+assumption_place a = 10000000 * a
+
 abbrev rule_place : ℕ → ℕ
-rule_place r = 10000000 + 5000000 * r
+rule_place r = 20000000000000 + 5000000 * r
 
 abbrev atom_place : ℕ → ℕ
-atom_place x = 10000000000000 + 5000000 * x
+atom_place x = 30000000000000 + 5000000 * x
 
 abbrev rank_of : AbaAxiom → ℕ
 rank_of (B1 a) = atom_place a
-rank_of (B2 a) = 2 + 8 * a
-rank_of (B3 a c) = 3 + 8 * a
+rank_of (B2 a) = assumption_place a
+rank_of (B3 a) = assumption_place a + 1
 rank_of (B4 k) = side k
 rank_of (B5 k r h) = rule_place r + side k
 rank_of (B6 k r x) = rule_place r + 4 * x + side k
 rank_of (B7 k r i j) = rule_place r + 4 * j + 2 + side k
 rank_of (B8 k r i) = rule_place r + 4000004 + side k
 rank_of (B9 k x) = atom_place x + 1 + side k
-rank_of (B9Con a c) = 4 + 8 * a
+rank_of (B9Con a c) = assumption_place a + 8 * c
 rank_of (B10 k x i j) = atom_place x + 4 * j + side k
 rank_of (B11 k x i) = atom_place x + 4000004 + side k
-rank_of (B12 a c) = 5 + 8 * a
-rank_of (B13 a c) = 6 + 8 * a
-rank_of (B14 a c) = 7 + 8 * a
-rank_of (B15 a c) = 8 + 8 * a
+rank_of (B12 a c) = assumption_place a + 8 * c + 1
+rank_of (B13 a c) = assumption_place a + 8 * c + 2
+rank_of (B14 a) = assumption_place a + 2
+rank_of (B15 a) = assumption_place a + 3
 rank_of (B16 part) = 1 + part
 rank_of (B17 k x rows) = 0
+rank_of (B18 k a i j) = assumption_place a + 8 * j + 3 + side k
+rank_of (B19 k a i) = assumption_place a + 8000008 + side k
 
 module _ (f : Aba) (form : IsNumberedAba f) where
   common_between : Between rank_of 0 10 common_axioms
   common_between = (omega arith, (omega arith, (omega arith, (omega arith, (omega arith, omega arith)))))
 
-  contrary_between : (p : ℕ × ℕ) → Between rank_of (2 + 8 * p.0) (10 + 8 * p.0) (contrary_axioms p)
-  contrary_between p = (
+  assumption_between : (a : ℕ) → Between rank_of (assumption_place a) (assumption_place a + 10000000)
+      (assumption_axioms f a)
+  assumption_between a = (
     omega arith,
-    (omega arith, (omega arith, (omega arith, (omega arith, (omega arith, (omega arith, omega arith)))))),
+    (
+      omega arith,
+      (
+        omega arith,
+        (
+          omega arith,
+          walks rank_of (contrary_step a) (contrary_end a) (λ y. assumption_place a + 8 * y) (λ j k le. omega arith)
+              (λ i y. (omega arith, (omega arith, (omega arith, (omega arith, (omega arith, omega arith))))))
+              (assumption_place a + 10000000) (λ i. (omega arith, (omega arith, omega arith)))
+              (rank_of (B15 a) + 1) 1 (contraries_of f.contraries a)
+              (AllPairs-from_increasing (contraries_of f.contraries a) (contraries_rise f form a)) (omega arith)
+              (λ c d.
+              let con = (contraries_are f a c).0 d in
+              let low = contrary_low f form a c con in
+              let under = contrary_under f form a c con in
+              (omega arith, under)),
+        ),
+      ),
+    ),
   )
 
-  contraries_between : Between rank_of 10 10000000 (flat_map contrary_axioms f.contraries)
-  contraries_between =
-      blocks rank_of (λ (p : ℕ × ℕ). p.0) contrary_axioms (λ a. 2 + 8 * a) (λ a. 10 + 8 * a)
-      (λ j k lt. omega arith) 10 10000000 f.contraries
-      (keys_rise (λ (p : ℕ × ℕ). p.0) f.contraries
-      (subst IsStrictlyIncreasing (sym form.form.one_contrary) form.form.assumptions_rise))
-      (omega arith)
-      (λ p c. let atom = form.form.assumptions_are p.0 (has_assumption f form.form p.0 p.1 c) in
+  assumptions_between : Between rank_of 10 20000000000000 (flat_map (assumption_axioms f) f.assumptions)
+  assumptions_between =
+      blocks rank_of (λ (a : ℕ). a) (assumption_axioms f) assumption_place (λ a. assumption_place a + 10000000)
+      (λ j k lt. omega arith) 10 20000000000000 f.assumptions
+      (AllPairs-from_increasing f.assumptions form.form.assumptions_rise) (omega arith)
+      (λ a c. let atom = form.form.assumptions_are a c in
       let low = atom.low in
       let high = atom.high in
       let most = form.atoms in
       (omega arith, omega arith))
-      (λ p c. contrary_between p)
+      (λ a c. assumption_between a)
 
   rule_between : (r : Rule) → Contains f.rules r
       → Between rank_of (rule_place r.number) (rule_place r.number + 5000000) (rule_axioms r)
@@ -162,10 +185,10 @@ module _ (f : Aba) (form : IsNumberedAba f) where
         ),
       )
 
-  rules_between : Between rank_of 10000000 10000000000000 (flat_map rule_axioms f.rules)
+  rules_between : Between rank_of 20000000000000 30000000000000 (flat_map rule_axioms f.rules)
   rules_between =
       blocks rank_of (λ (r : Rule). r.number) rule_axioms rule_place (λ n. rule_place n + 5000000)
-      (λ j k lt. omega arith) 10000000 10000000000000 f.rules
+      (λ j k lt. omega arith) 20000000000000 30000000000000 f.rules
       (keys_rise (λ (r : Rule). r.number) f.rules form.form.numbers_rise) (omega arith)
       (λ r c. let given = (form.form.rules_are r c).given in let next = form.rules in (omega arith, omega arith))
       rule_between
@@ -199,10 +222,10 @@ module _ (f : Aba) (form : IsNumberedAba f) where
       let there = get_or-range_with_len 1 f.atoms j d (omega arith) in
       omega arith
 
-  atoms_between : Between rank_of 10000000000000 20000000000000 (flat_map (atom_axioms f) (range_with_len 1 f.atoms))
+  atoms_between : Between rank_of 30000000000000 40000000000000 (flat_map (atom_axioms f) (range_with_len 1 f.atoms))
   atoms_between =
       blocks rank_of (λ (x : ℕ). x) (atom_axioms f) atom_place (λ n. atom_place n + 5000000) (λ j k lt. omega arith)
-      10000000000000 20000000000000 (range_with_len 1 f.atoms) range_rises (omega arith)
+      30000000000000 40000000000000 (range_with_len 1 f.atoms) range_rises (omega arith)
       (λ x c.
       let long = length-range_with_len 1 f.atoms in
       let lt = c.1 in
@@ -212,14 +235,14 @@ module _ (f : Aba) (form : IsNumberedAba f) where
       (omega arith, omega arith))
       (λ x c. atom_between x)
 
-  all_between : Between rank_of 0 20000000000000 (listed_axioms f)
+  all_between : Between rank_of 0 40000000000000 (listed_axioms f)
   all_between =
-      let contraries = flat_map contrary_axioms f.contraries in
+      let assumptions = flat_map (assumption_axioms f) f.assumptions in
       let rules = flat_map rule_axioms f.rules in
       let atoms = flat_map (atom_axioms f) (range_with_len 1 f.atoms) in
-      both rank_of 0 10 20000000000000 common_axioms (contraries ++ (rules ++ atoms)) common_between
-      (both rank_of 10 10000000 20000000000000 contraries (rules ++ atoms) contraries_between
-      (both rank_of 10000000 10000000000000 20000000000000 rules atoms rules_between atoms_between))
+      both rank_of 0 10 40000000000000 common_axioms (assumptions ++ (rules ++ atoms)) common_between
+      (both rank_of 10 20000000000000 40000000000000 assumptions (rules ++ atoms) assumptions_between
+      (both rank_of 20000000000000 30000000000000 40000000000000 rules atoms rules_between atoms_between))
 
   -- as names of either kind
   abbrev name_rank : AxiomName → ℕ
@@ -232,5 +255,5 @@ module _ (f : Aba) (form : IsNumberedAba f) where
 
   pub listed_once : AllPairs (λ x y. x ≢ y) (map OfAba (listed_axioms f))
   listed_once =
-      between_once name_rank 0 20000000000000 (map OfAba (listed_axioms f))
-      (mapped 0 20000000000000 (listed_axioms f) all_between)
+      between_once name_rank 0 40000000000000 (map OfAba (listed_axioms f))
+      (mapped 0 40000000000000 (listed_axioms f) all_between)

@@ -9,7 +9,7 @@ use Rattle.semantics.specs.Frameworks.{aba}
 use Rattle.meaning_atoms.specs.declared.aba_axiom.AbaAxiom.{AbaAxiom}
 use Rattle.meaning_atoms.specs.declared.aba_axiom.AbaAxiom.TheVariants.{B1, B16}
 use Rattle.meaning_atoms.specs.declared.atom.Atom.{Atom}
-use Rattle.meaning_atoms.specs.declared.atom.Atom.TheVariants.{Member, Asm, Con, Head, HGap, Body, BGap, Der, Cf, Ad, Co, St}
+use Rattle.meaning_atoms.specs.declared.atom.Atom.TheVariants.{Member, Asm, Con, ConGap, Head, HGap, Body, BGap, Der, Cf, Ad, Co, St}
 use Rattle.meaning_atoms.specs.declared.atom.AtomLit.{AtomLit}
 use Rattle.meaning_atoms.specs.Literals.{affirmed, denied, negated}
 use Rattle.meaning_atoms.specs.Valuations.{IsValuation}
@@ -62,6 +62,7 @@ fact_reading : (f : Aba) (s t : List ℕ) (sides : List (List AtomLit)) (atom : 
     → Holds (world_of (aba f) s) [] atom ↔ Holds (world_of (aba f) t) sides atom
 fact_reading f s t sides (Asm a) h = (λ x. x, λ x. x)
 fact_reading f s t sides (Con a c) h = (λ x. x, λ x. x)
+fact_reading f s t sides (ConGap a i j) h = (λ x. x, λ x. x)
 fact_reading f s t sides (Head r x) h = (λ x. x, λ x. x)
 fact_reading f s t sides (HGap x i j) h = (λ x. x, λ x. x)
 fact_reading f s t sides (Body r x) h = (λ x. x, λ x. x)
