@@ -11,39 +11,11 @@ use Rattle.dung_notions.specs.attack_index.proofs.OffsetLemmas.{PairsRise-filter
 use Rattle.semantics.specs.Rules.{Rule}
 use Rattle.semantics.specs.AbaFrameworks.{IsRuleOf, IsNumberedAba}
 use Rattle.aba_notions.specs.declared.rule_table.RuleLists.{RuleLists}
-use Rattle.aba_notions.specs.Storage.{no_rule, rule_at, rule_of, rules_of, aba_of, AreContraries, AreParts, AreRulesOf}
+use Rattle.aba_notions.specs.Storage.{no_rule, rule_at, rule_of, rules_of, aba_of, AreParts, AreRulesOf}
 use Rattle.aba_notions.proofs.TableLemmas.{rule_from, rising_few}
-use Rattle.lists.proofs.RisingLists.{same_rising}
-use Rattle.lists.proofs.Images.{image_there, image_from}
+use Rattle.lists.proofs.Images.{image_there}
 
--- ---- rising lists with the same members
-
--- ---- rising pairs
-
--- the first numbers of rising pairs rise where no two pairs share one
-firsts_rise : (pairs : List (ℕ × ℕ)) → PairsRise pairs
-    → ((a c d : ℕ) → Contains pairs (a, c) → Contains pairs (a, d) → c ≡ d)
-    → IsStrictlyIncreasing (map (λ (p : ℕ × ℕ). p.0) pairs)
-firsts_rise pairs up one k lt =
-    let size = length-map pairs (λ (p : ℕ × ℕ). p.0) in
-    let p : ℕ × ℕ = get_or pairs k (0, 0) in
-    let q : ℕ × ℕ = get_or pairs (k + 1) (0, 0) in
-    let second : k + 1 < length pairs = omega (arith, lt, size) in
-    let less : p.0 < q.0 = ⊎_elim (λ h. h)
-    (λ tie. absurd (omega (
-      arith,
-      tie.1,
-      one q.0 p.1 q.1
-          (subst (λ a. Contains pairs (a, p.1)) tie.0 (Contains-get_or pairs k (0, 0) (omega arith)))
-          (Contains-get_or pairs (k + 1) (0, 0) second),
-    )))
-    (up.order k (k + 1) (0, 0) (omega arith) second) in
-    omega (
-      arith,
-      less,
-      get_or-map (λ (p : ℕ × ℕ). p.0) pairs k (0, 0) 0 (omega arith),
-      get_or-map (λ (p : ℕ × ℕ). p.0) pairs (k + 1) (0, 0) 0 second,
-    )
+-- ---- bodies
 
 -- the second numbers of rising pairs rise where all begin with one number
 seconds_rise : (pairs : List (ℕ × ℕ)) (n : ℕ) → PairsRise pairs → ((p : ℕ × ℕ) → Contains pairs p → p.0 ≡ n)
@@ -77,21 +49,6 @@ body_rises numbers heads bodies k up =
     (λ p c. eqb-true p.0 k ((Contains-filter (λ (q : ℕ × ℕ). eqb q.0 k) bodies p).0 c).1)
 
 -- ---- a framework's form
-
--- each assumption has one contrary, in the order of the assumptions
-one_each : (atoms : ℕ) (assumptions : List ℕ) (given contraries : List (ℕ × ℕ)) → IsStrictlyIncreasing assumptions
-    → AreContraries atoms assumptions given → PairsRise contraries
-    → ((p : ℕ × ℕ) → Contains contraries p ↔ Contains given p)
-    → map (λ (p : ℕ × ℕ). p.0) contraries ≡ assumptions
-one_each atoms assumptions given contraries up are rise same =
-    same_rising (map (λ (p : ℕ × ℕ). p.0) contraries) assumptions
-    (firsts_rise contraries rise (λ a c d left right. are.one a c d ((same (a, c)).0 left) ((same (a, d)).0 right))) up
-    (λ a. (
-      λ c. let from = image_from (λ (p : ℕ × ℕ). p.0) contraries a c in
-          subst (λ x. Contains assumptions x) from.2 (are.of_assumptions from.0.0 from.0.1 ((same from.0).0 from.1)).0,
-      λ c. let w = are.some a c in
-          image_there (λ (p : ℕ × ℕ). p.0) contraries (a, w.0) ((same (a, w.0)).1 w.1),
-    ))
 
 -- a rule of a table that was made of lists
 rule_is : (atoms : ℕ) (assumptions : List ℕ) (given contraries : List (ℕ × ℕ)) (lists : RuleLists) (next : ℕ)
@@ -128,8 +85,8 @@ formed atoms assumptions given contraries lists next numbers heads bodies up par
   form = record {
     assumptions_rise = up;
     assumptions_are = parts.assumptions_are;
-    one_contrary = one_each atoms assumptions given contraries up parts.contraries_are rise same;
-    contraries_are = λ a c in'. (parts.contraries_are.of_assumptions a c ((same (a, c)).0 in')).1;
+    contraries_rise = rise.order;
+    contraries_are = λ a c in'. parts.contraries_are a c ((same (a, c)).0 in');
     numbers_rise = subst IsStrictlyIncreasing (sym are.numbers_are) parts.numbers_rise;
     rules_are = rule_is atoms assumptions given contraries lists next numbers heads bodies parts bodies_rise are;
     next_is = parts.next_low;

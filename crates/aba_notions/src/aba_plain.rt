@@ -1,7 +1,7 @@
 //! A flat assumption-based framework in flat storage.
 
-ghost use Rattle.std.specs.Prelude.{◌≡◌, ◌↔◌, ℕ, ◌<◌};
-ghost use Rattle.std.specs.Prelude.{Contains, IfOk, IsTrue, length, map};
+ghost use Rattle.std.specs.Prelude.{◌≡◌, ◌↔◌, ℕ, ◌<◌, ◌==◌};
+ghost use Rattle.std.specs.Prelude.{Contains, IfOk, IsTrue, filter, length, map};
 ghost use Rattle.lists.specs.Members.{IsSetOf};
 ghost use Rattle.semantics.specs.AbaFrameworks.{IsNumberedAba};
 ghost use Rattle.semantics.specs.Rules.{Derives};
@@ -54,9 +54,9 @@ impl Model for AbaPlain {
 }
 
 impl AbaPlain {
-    /// The framework of so many atoms, assumptions with one contrary each, which is 0 where there is none, and rules,
-    /// of which the next gets the number `next`. The contraries may stand in any order and be repeated. `Memory` says
-    /// that an allocation was refused.
+    /// The framework of so many atoms, assumptions, pairs of an assumption and a contrary of it, and rules, of which the
+    /// next gets the number `next`. An assumption may stand in no pair or in several; the pairs may stand in any order
+    /// and be repeated. `Memory` says that an allocation was refused.
     pub fn new(
         alloc: Global,
         atoms: u32,
@@ -102,13 +102,21 @@ impl AbaPlain {
         &self.assumptions
     }
 
-    /// Pairs of an assumption and a contrary of it, by rising assumption. An assumption without a contrary has the
-    /// contrary 0.
+    /// Pairs of an assumption and a contrary of it, by assumption and then by contrary. There is none for an assumption
+    /// without one.
     pub fn contraries(&self) -> &[(u32, u32)]
         ensures value { result.now ≡ self.now.contraries }
         ensures form { IsNumberedAba self.now }
     {
         self.contraries.pairs()
+    }
+
+    /// The pairs of an atom and a contrary of it, by rising contrary. There is none for an atom that is no assumption.
+    pub fn contraries_of(&self, atom: u32) -> &[(u32, u32)]
+        ensures value { result.now ≡ filter (λ p. p.0 == atom) self.now.contraries }
+        ensures form { IsNumberedAba self.now }
+    {
+        self.contraries.of(atom)
     }
 
     /// Whether the second atom is a contrary of the first.

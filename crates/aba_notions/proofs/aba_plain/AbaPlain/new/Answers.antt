@@ -5,8 +5,8 @@ use Rattle.aba_notions.proofs.aba_plain.AbaPlain.new.Goals as goal
 
 pub new-requires-clause-below : goal.new-requires-clause-below
 new-requires-clause-below c = λ p h.
-    let w = c.requires.contraries_are.of_assumptions p.0 p.1 h in
-    (omega (arith, (c.requires.assumptions_are p.0 w.0).high), omega (arith, w.1))
+    let w = c.requires.contraries_are p.0 p.1 h in
+    (omega (arith, (c.requires.assumptions_are p.0 w.0).high), omega (arith, w.1.high))
 
 pub new-requires-2-clause-small : goal.new-requires-2-clause-small
 new-requires-2-clause-small c = few_rules c.args.atoms _ c.args.assumptions c.args.contraries.items c.args.rules
