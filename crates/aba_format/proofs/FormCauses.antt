@@ -7,7 +7,7 @@ use Rattle.std.proofs.lemmas.List.Elements.{All-nil, All-cons, All-head, All-tai
 use Rattle.num_text.specs.Number.{IsNumber}
 use Rattle.num_text.specs.Numerals.{IsReadNumber}
 use Rattle.af_format.specs.declared.fault.LineCause.{LineCause}
-use Rattle.af_format.specs.declared.fault.LineCause.TheVariants.{NoHeader, WrongKind, BadHeader, SecondHeader, BadLine, BadNumber, OutOfRange, TooManyLines, NotFlat, SecondContrary, ContraryOfNonAssumption}
+use Rattle.af_format.specs.declared.fault.LineCause.TheVariants.{NoHeader, WrongKind, BadHeader, SecondHeader, BadLine, BadNumber, OutOfRange, TooManyLines, NotFlat, ContraryOfNonAssumption}
 use Rattle.af_format.specs.Causes.{rank, IsFirstCause}
 use Rattle.af_format.specs.Headers.{BeginWithP}
 use Rattle.af_format.specs.Faults.{HaveNoNumber, HaveOutsider}
@@ -32,7 +32,6 @@ no_lower count fields n small p form number BadNumber stands = number stands
 no_lower count fields n small p form number OutOfRange stands = small
 no_lower count fields n small p form number TooManyLines stands = absurd stands
 no_lower count fields n small p form number NotFlat stands = absurd stands
-no_lower count fields n small p form number SecondContrary stands = absurd stands
 no_lower count fields n small p form number ContraryOfNonAssumption stands = absurd stands
 
 -- some field behind the first is no number
