@@ -190,7 +190,8 @@ listed_contrary [] p c = absurd (omega (arith, c.1))
 listed_contrary (says_assumption x ∷ ss) p c =
     Contains-tail (says_assumption x) ss (says_contrary p.0 p.1) (listed_contrary ss p c)
 listed_contrary (says_contrary x y ∷ ss) p c = ⊎_elim
-    (λ (e : (x, y) ≡ p). Contains-head (says_contrary x y) ss (says_contrary p.0 p.1) (ap (λ q. says_contrary q.0 q.1) e))
+    (λ (e : (x, y) ≡ p). Contains-head (says_contrary x y) ss (says_contrary p.0 p.1)
+    (ap (λ q. says_contrary q.0 q.1) e))
     (λ (d : Contains (contraries_said ss) p).
     Contains-tail (says_contrary x y) ss (says_contrary p.0 p.1) (listed_contrary ss p d))
     (Contains-cons_cases (x, y) (contraries_said ss) p c)

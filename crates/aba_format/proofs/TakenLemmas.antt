@@ -189,8 +189,8 @@ said_in_lists : (count : ℕ) (all : List Said) (parts : LineParts) (assumed hea
     → AreMarked heading (λ x. (body : List ℕ) × Contains all (says_rule x body))
     → AreMarked opposed (λ x. (y : ℕ) × Contains all (says_contrary x y)) → AreAssumptions all assumptions
     → contraries ≡ contraries_said all → AreRulesIn (rules_said all) heads bodies → IsSaidIn count all parts
-said_in_lists count all parts assumed heading opposed assumptions heads contraries bodies e1 e2 e3 e4 e5 e6 e7 w1 w2 w3 m1
-    m2 m3 asms cs rs =
+said_in_lists count all parts assumed heading opposed assumptions heads contraries bodies e1 e2 e3 e4 e5 e6 e7 w1 w2 w3
+    m1 m2 m3 asms cs rs =
     let asms' : AreAssumptions all parts.assumptions.items = subst (AreAssumptions all) (sym e4) asms in
     record {
       wide = record { assumed = ap length e1 ∙ w1; heading = ap length e2 ∙ w2; opposed = ap length e3 ∙ w3 };
@@ -239,9 +239,9 @@ assumption_new count all x old new h atom a =
     let wide_is = h.wide.assumed in
     let wide : x < length old.assumed.items = omega arith in
     said_in_lists count (all ++ s ∷ []) new (set old.assumed.items x true) old.heading.items old.opposed.items
-    (old.assumptions.items ++ x ∷ []) old.heads.items old.contraries.items old.bodies.items a.assumed a.heading a.opposed
-    a.assumptions a.contraries a.heads a.bodies (length-set old.assumed.items x true ∙ h.wide.assumed) h.wide.heading
-    h.wide.opposed
+    (old.assumptions.items ++ x ∷ []) old.heads.items old.contraries.items old.bodies.items a.assumed a.heading
+    a.opposed a.assumptions a.contraries a.heads a.bodies (length-set old.assumed.items x true ∙ h.wide.assumed)
+    h.wide.heading h.wide.opposed
     (marks_more old.assumed.items x (λ z. Contains all (says_assumption z))
     (λ z. Contains (all ++ s ∷ []) (says_assumption z)) h.assumed wide
     (newest all s) (λ z d. kept all s (says_assumption z) d)
@@ -329,8 +329,8 @@ contrary_next count all x y line old new h atom a =
     let wide_is = h.wide.opposed in
     let wide : x < length old.opposed.items = omega arith in
     said_in_lists count (all ++ s ∷ []) new old.assumed.items old.heading.items new.opposed.items
-    old.assumptions.items old.heads.items (old.contraries.items ++ (x, y) ∷ []) old.bodies.items a.assumed a.heading refl
-    a.assumptions a.contraries a.heads a.bodies h.wide.assumed h.wide.heading
+    old.assumptions.items old.heads.items (old.contraries.items ++ (x, y) ∷ []) old.bodies.items a.assumed a.heading
+    refl a.assumptions a.contraries a.heads a.bodies h.wide.assumed h.wide.heading
     (opposed_long x line old new a.marked ∙ wide_is)
     (assumed_kept all s old.assumed.items (λ e. omega arith) h.assumed)
     (heading_kept all s old.heading.items (λ e. omega arith) h.heading)
@@ -411,7 +411,8 @@ rule_next count all head body old new h atom a =
     said_in_lists count (all ++ s ∷ []) new old.assumed.items (set old.heading.items head true) old.opposed.items
     old.assumptions.items (old.heads.items ++ head ∷ []) old.contraries.items
     (old.bodies.items ++ map (λ y. (length old.heads.items, y)) body) a.assumed a.heading a.opposed a.assumptions
-    a.contraries a.heads a.bodies h.wide.assumed (length-set old.heading.items head true ∙ h.wide.heading) h.wide.opposed
+    a.contraries a.heads a.bodies h.wide.assumed (length-set old.heading.items head true ∙ h.wide.heading)
+    h.wide.opposed
     (assumed_kept all s old.assumed.items (λ e. omega arith) h.assumed)
     (marks_more old.heading.items head (λ z. (b : List ℕ) × Contains all (says_rule z b))
     (λ z. (b : List ℕ) × Contains (all ++ s ∷ []) (says_rule z b)) h.heading wide (body, newest all s)

@@ -23,7 +23,7 @@ pub fn one_reading()
     ensures faultless { (bytes : List ℕ) → (f : Aba) → ReadsAs bytes f → IsFaultless bytes }
 {}
 
-/// The framework that is read from its own text, where that is not too long and the contraries aren't too many: the same
+/// The framework that is read from its own text, where that is not too long and has not too many contraries: the same
 /// one. Nothing but want of memory comes between. Only tests call it: its contract is the law.
 pub fn read_back(alloc: Global, framework: &AbaPlain) -> Result<AbaPlain, ReadFault>
     requires solid { IsSolid framework.now }

@@ -14,11 +14,11 @@ use lists::{Bytes, Memory};
 use std::alloc::Global;
 use std::fmt::Write;
 
-/// The text of a framework whose rules are numbered from 1 without a gap ([`AbaPlain::is_solid`] is the test): the header,
-/// a line for each assumption, for each contrary of one, by assumption and then by contrary, and for each rule. With up to
-/// 10,000,000 contraries and in at most `MAX_INPUT` bytes it is a text that [`read_aba`](crate::read_aba) reads as the
-/// same framework. `Memory` says that an allocation was refused. No command writes a framework: the law that it reads
-/// back, and tests, call this.
+/// The text of a framework whose rules are numbered from 1 without a gap ([`AbaPlain::is_solid`] is the test): the
+/// header, a line for each assumption, for each contrary by assumption and then by contrary, and for each rule, each in
+/// rising order. Where it has at most `MAX_INPUT` bytes and 10,000,000 contraries, [`read_aba`](crate::read_aba) reads it
+/// as the same framework. `Memory` says that an allocation was refused. No command writes a framework: the law that it
+/// reads back, and tests, call this.
 pub fn write_aba(alloc: Global, framework: &AbaPlain) -> Result<Bytes, Memory>
     requires { IsSolid framework.now }
     ensures text { IfOk result (λ text. text ≡ aba_text framework.now) }
