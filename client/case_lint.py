@@ -19,7 +19,7 @@ from dataclasses import dataclass
 from typing import TYPE_CHECKING, Optional
 
 from burgaouez import Framework, Kind, Rule
-from case_text import Attacks, Concludes, names_in
+from case_text import Attacks, Concludes, Opposes, names_in
 
 if TYPE_CHECKING:
     from case import Case
@@ -56,7 +56,7 @@ class _Uses:
         self.assumed = set(framework.assumptions)
         self.heads = Counter(rule.head for rule in framework.rules)
         self.premises = Counter(number for rule in framework.rules for number in rule.body)
-        self.against = Counter(framework.contraries.values())
+        self.against = Counter(contrary for _, contrary in framework.contrary_pairs)
         self.attackers = Counter(attack.attacker for attack in framework.attacks)
         self.targets = Counter(attack.target for attack in framework.attacks)
         self.derivable = set(framework.closure(framework.assumptions))
@@ -64,7 +64,7 @@ class _Uses:
     def count(self, number: int) -> int:
         """How many lines speak of a number, its text aside."""
         tables = (self.heads, self.premises, self.against, self.attackers, self.targets)
-        roles = (number in self.assumed) + (number in self.framework.contraries)
+        roles = (number in self.assumed) + len(self.framework.contraries.get(number, ()))
         return roles + sum(table[number] for table in tables)
 
 
@@ -92,6 +92,7 @@ def _found(case: Case, uses: _Uses) -> Iterator[LintWarning]:
     else:
         yield from _underived(case, uses)
         yield from _contraries(case, uses)
+        yield from _against_twice(case)
         yield from _defeated(case)
         yield from _unused(case, uses)
         yield from _dead_rules(case, uses)
@@ -133,26 +134,40 @@ def _underived(case: Case, uses: _Uses) -> Iterator[LintWarning]:
 
 
 def _contraries(case: Case, uses: _Uses) -> Iterator[LintWarning]:
-    for assumption, contrary in case.framework.contraries.items():
+    for assumption, contrary in case.framework.contrary_pairs:
         name, held = case.name(contrary), case.name(assumption)
         if contrary == assumption:
             yield LintWarning("OwnContrary", name, f"{name} is against itself, so no position can hold it")
         elif contrary not in uses.derivable:
-            says = f"nothing leads to {name}, which is against {held}, so {held} always stands"
-            yield LintWarning("UnderivableContrary", name, says)
+            safe = uses.derivable.isdisjoint(case.framework.contraries[assumption])
+            so = f"so {held} always stands" if safe else "so that changes nothing"
+            yield LintWarning("UnderivableContrary", name, f"nothing leads to {name}, which is against {held}, {so}")
+
+
+def _against_twice(case: Case) -> Iterator[LintWarning]:
+    seen: set[tuple[str, str]] = set()
+    for statement in case.statements:
+        if isinstance(statement, Opposes):
+            pair = statement.contrary, statement.assumption
+            if pair in seen:
+                says = f"that {pair[0]} is against {pair[1]} is said twice"
+                yield LintWarning("AgainstTwice", pair[0], says, statement.line)
+            seen.add(pair)
 
 
 def _defeated(case: Case) -> Iterator[LintWarning]:
     """Assumptions that can't be held, whatever else is assumed."""
     framework = case.framework
     known = set(framework.closure(()))
-    for assumption, contrary in framework.contraries.items():
-        name, against = case.name(assumption), case.name(contrary)
-        if contrary in known:
-            says = f"{against} is against {name} and follows from what is known, so {name} never stands"
-            yield LintWarning("KnownAgainst", name, says)
-        elif len(framework.assumptions) <= MANY and assumption != contrary:
-            if contrary in framework.closure((assumption,)):
+    few = len(framework.assumptions) <= MANY
+    for assumption, contraries in framework.contraries.items():
+        name, derived = case.name(assumption), framework.closure((assumption,)) if few else ()
+        for contrary in contraries:
+            against = case.name(contrary)
+            if contrary in known:
+                says = f"{against} is against {name} and follows from what is known, so {name} never stands"
+                yield LintWarning("KnownAgainst", name, says)
+            elif contrary in derived and contrary != assumption:
                 says = f"from {name} follows {against}, which is against it, so no position can hold {name}"
                 yield LintWarning("SelfDefeat", name, says)
 

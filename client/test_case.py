@@ -77,9 +77,16 @@ class ReadingTest(unittest.TestCase):
     def test_rules(self):
         framework = Case.from_text(DRUG).framework
         self.assertEqual(list(framework.names.values()), ["given", "record", "allergy", "unsafe", "interaction"])
-        self.assertEqual((framework.assumptions, framework.contraries), ((1, 2), {1: 4}))
+        self.assertEqual((framework.assumptions, framework.contraries), ((1, 2), {1: (4,)}))
         self.assertEqual(framework.rules, ((1, 3, ()), (2, 5, (2, 3)), (3, 4, (5,))))
         self.assertEqual(framework.texts, {1: "The drug is given.", 3: "There is an allergy."})
+
+    def test_several_are_against_one(self):
+        case = Case.from_text("assume a: A.\nc against a\nb against a\nc against a\nassume b\na against b\n")
+        self.assertEqual(case.framework.contraries, {1: (2, 3), 3: (1,)})
+        self.assertEqual(case.sentences()[0], "“A” may be assumed; each of c and b speaks against it.")
+        self.assertEqual(Case.from_text(case.text()).framework, case.framework)
+        self.assertEqual(case.text().splitlines()[-3:], ["c against a", "b against a", "a against b"])
 
     def test_numbers_follow_the_first_mention(self):
         case = Case.from_text("b against a\nassume a\n")
@@ -127,7 +134,7 @@ class ReadingTest(unittest.TestCase):
             ("assume a\na if b", 2, "AssumedHead"),
             ("known a\nassume a", 2, "AssumedHead"),
             ("b against a\nassume c", 1, "NotAssumed"),
-            ("assume a\nb against a\nc against a", 3, "SecondContrary"),
+            ("assume a\nb against a\nc against a\nc against b", 4, "NotAssumed"),
         ):
             with self.subTest(text), self.assertRaises(CaseError) as caught:
                 Case.from_text(text)
@@ -155,6 +162,9 @@ class ReadingTest(unittest.TestCase):
         with mock.patch.object(burgaouez, "LARGEST_NUMBER", 5), self.assertRaises(CaseError) as caught:
             Case.from_text("".join(f"a{number}:\n" for number in range(7)))
         self.assertEqual((caught.exception.line, caught.exception.name.value), (6, "TooMany"))
+        with mock.patch.object(burgaouez, "MOST_CONTRARY_LINES", 1), self.assertRaises(CaseError) as caught:
+            Case.from_text("assume a\nb against a\nc against a\n")
+        self.assertEqual((caught.exception.line, caught.exception.name.value), (3, "TooMany"))
 
 
 class RoundTripTest(unittest.TestCase):
@@ -324,6 +334,8 @@ class LintTest(unittest.TestCase):
             ("a: A.\nk if a", ("DeadRule", "k")),
             ("a: A.\na against z", ("UnderivableContrary", "a")),
             ("z against z", ("OwnContrary", "z")),
+            ("k against x", ("AgainstTwice", "k")),
+            ("a: A.\na against x", ("UnderivableContrary", "a")),
             ("a: A.", ("NeverUsed", "a")),
             ("k if x", ("SelfDefeat", "x")),
             ("a: A.\na if x", ("ConcludedUnused", "a")),
@@ -334,6 +346,15 @@ class LintTest(unittest.TestCase):
         ):
             with self.subTest(line):
                 self.assertIn(warning, self.told(given + line + "\n"))
+
+    def test_one_of_several_that_nothing_leads_to(self):
+        """x doesn't always stand: k, which is against it too, follows from z."""
+        text = "assume x: X.\nassume z: Z.\nk: K.\na: A.\nk against x\na against x\nk if z\na against z\n"
+        said = [warning.says for warning in case_lint.warnings_of(Case.from_text(text)) if not warning.is_remark]
+        self.assertEqual(said, [
+            "nothing leads to a, which is against x, so that changes nothing",
+            "nothing leads to a, which is against z, so z always stands",
+        ])
 
     def test_two_rules_for_one_statement(self):
         self.assertEqual(self.told("assume x: X.\nassume z: Z.\nk: K.\nk against x\nk if z\nk if z, x\n"), [])

@@ -25,8 +25,8 @@ import certificate
 import page
 import records
 import words
-from burgaouez import Accepted, ArgueError, Framework, No, Sets, Yes, check, solve
-from certificate import AXIOMS, Literal, View, literal_of, read_certificate
+from burgaouez import Accepted, ArgueError, Framework, Kind, No, Sets, Yes, check, solve
+from certificate import AXIOMS, Axiom, Literal, View, clause_of, literal_of, read_certificate
 from narration import Narrator, Wording, literal_words, plain
 from reasons import NotAccepted, cited, main, reasons
 from records import Case, Fact, Record, read_refutation, walk
@@ -51,12 +51,15 @@ class Plain:
         numbers = [tuple(map(int, row)) for row in rows[1:]] if not self.is_rules else []
         self.attacks = set(numbers)
         self.assumed = {int(row[1]) for row in rows[1:] if row[0] == "a"}
-        self.against = {int(row[1]): int(row[2]) for row in rows[1:] if row[0] == "c"}
+        self.pairs = {(int(row[1]), int(row[2])) for row in rows[1:] if row[0] == "c"}
         self.rules = [(int(row[1]), frozenset(map(int, row[2:]))) for row in rows[1:] if row[0] == "r"]
         self.members = sorted(self.assumed) if self.is_rules else list(range(1, self.size + 1))
 
     def attackers(self, a):
         return {b for b, target in self.attacks if target == a}
+
+    def against(self, a):
+        return {c for one, c in self.pairs if one == a}
 
     def closure(self, given):
         closed = set(given)
@@ -69,7 +72,7 @@ class Plain:
     def attacked(self, chosen):
         if self.is_rules:
             derived = self.closure(chosen)
-            return {a for a in self.assumed if self.against.get(a) in derived}
+            return {a for a in self.assumed if self.against(a) & derived}
         return {a for b, a in self.attacks if b in chosen}
 
     def spread(self, chosen):
@@ -91,7 +94,7 @@ class World:
 
     def defends(self, a):
         if self.plain.is_rules:
-            return self.plain.against.get(a) not in self.derived[2]
+            return not self.plain.against(a) & self.derived[2]
         return self.plain.attackers(a) <= self.attacked
 
     def holds(self, atom):
@@ -108,6 +111,8 @@ class World:
             return any(b >= n[1] and b not in self.attacked for b in self.plain.attackers(n[0]))
         if name == "Der":
             return n[1] in self.derived[n[0]]
+        if name == "Hit":
+            return any(c >= n[2] and c in self.derived[n[0]] for c in self.plain.against(n[1]))
         rules = list(enumerate(self.plain.rules, 1))
         if name == "Miss":
             bodies = [body for r, (_, body) in rules if r == n[1]]
@@ -161,7 +166,11 @@ def fact_is_so(plain, fact):
         case Fact("some attackers", (a, spans, those)):
             return set(those) == {b for b in plain.attackers(a) if any(i <= b < j for i, j in spans)}
         case Fact("contrary", (a, c)):
-            return a in plain.assumed and plain.against.get(a, 0) == c
+            return (a, c) in plain.pairs
+        case Fact("contraries", (a, those)):
+            return a in plain.assumed and list(those) == sorted(plain.against(a))
+        case Fact("some contraries", (a, spans, those)):
+            return set(those) == {c for c in plain.against(a) if any(i <= c < j for i, j in spans)}
         case Fact("rule", (r, head, body)):
             return r <= len(plain.rules) and plain.rules[r - 1] == (head, frozenset(body))
         case Fact("rules", (x, rules)):
@@ -207,11 +216,14 @@ def allowed_clashes(plain, record, side):
 
 def allowed_by_rules(plain, record):
     group = record.group
-    if only(record, "contrary") and group not in ("B5", "B9", "B17"):
+    if group in ("B9 3", "B12", "B13"):
         (a, c), = only(record, "contrary")
-        parts = {"B3": "-Der:1:{1} -Der:2:{0}", "B9 3": "Der:2:{0} Der:1:{1}", "B12": "Member:{0} Der:1:{1}",
-                 "B13": "Member:{0} Der:2:{1}", "B14": "-Der:2:{1} -Member:{0}", "B15": "-Member:{0} -Der:1:{1}"}[group]
-        return [literals(*(text for text in parts.format(a, c).split() if not text.endswith(":0")))]
+        parts = {"B9 3": "Der:2:{0} Der:1:{1}", "B12": "Member:{0} Der:1:{1}", "B13": "Member:{0} Der:2:{1}"}[group]
+        return [literals(*parts.format(a, c).split())]
+    if group in ("B3", "B14", "B15"):
+        (a, those), = only(record, "contraries")
+        part, k = {"B3": ("-Der:2:{}", 1), "B14": ("-Member:{}", 2), "B15": ("-Member:{}", 1)}[group]
+        return [literals(part.format(a), *(f"-Der:{k}:{c}" for c in those))]
     rules = only(record, "rule")
     if group == "B5":
         (_, head, body), = rules
@@ -308,12 +320,12 @@ def stands_so(plain, one):
         return set(one.about) | set(one.by) <= derived
     if one.kind in ("lacking", "circle"):
         return not reach & (set(one.about) | set(one.by))
-    against = plain.against.get(one.about[0])
+    against = plain.against(one.about[0])
     if one.kind == "attacked":
-        return against in derived
+        return set(one.by) <= against & derived != set()
     if one.kind == "possible":
-        return against in reach and one.about[0] not in attacked
-    return one.about[0] in members and against not in reach and not reach & set(one.by)
+        return set(one.by) <= against & reach != set() and one.about[0] not in attacked
+    return one.about[0] in members and not against & reach and against <= set(one.by) and not reach & set(one.by)
 
 
 def scope_faults(refutation, ground):
@@ -355,7 +367,7 @@ def random_framework(rng):
     m = rng.randint(1, min(5, n - 1))
     heads = [rng.randint(m + 1, n) for _ in range(rng.randint(1, 7))]
     rules = [(head, [rng.randint(1, n) for _ in range(rng.randint(0, 2))]) for head in heads]
-    contraries = {a: rng.randint(1, n) for a in range(1, m + 1) if rng.random() < 0.9}
+    contraries = {a: rng.choices(range(1, n + 1), k=rng.choice((0, 1, 1, 1, 2, 2, 3))) for a in range(1, m + 1)}
     return Framework.of_rules(range(1, m + 1), contraries, rules, size=n)
 
 
@@ -606,8 +618,10 @@ def planted_in(record, sides, plain):
         if fact.name == "attacks" and fact.values[0] != fact.values[1]:
             yield "turned round", exchanged(fact.values[::-1]) if fact.values[::-1] not in plain.attacks else altered(
                 record, facts=(Fact("attacks", (99, 98)),))
-        if fact.name in ("attackers", "rules") and fact.values[1]:
+        if fact.name in ("attackers", "contraries", "rules") and fact.values[1]:
             yield "left out", exchanged((fact.values[0], fact.values[1][:-1]))
+        if fact.name == "contraries":
+            yield "one too many", exchanged((fact.values[0], (*fact.values[1], plain.size + 1)))
         if fact.name == "contrary":
             yield "another contrary", exchanged((fact.values[0], fact.values[1] + 1))
         if fact.name == "rule" and fact.values[2]:
@@ -635,25 +649,74 @@ def altered(record, **changes):
     return wrong
 
 
+def needed_of_contraries(framework):
+    """The axioms on assumptions and contraries that a framework needs."""
+    for a in framework.assumptions:
+        those = framework.contraries.get(a, ())
+        yield from (Axiom(name, (a,)) for name in ("B2", "B3", "B14", "B15"))
+        for c in those:
+            yield from (Axiom("B9", (3, a, c)), Axiom("B12", (a, c)), Axiom("B13", (a, c)))
+        starts = [1, *(c + 1 for c in those)]
+        for k in (1, 2):
+            yield from (Axiom("B18", (k, a, i, c)) for i, c in zip(starts, those))
+            yield Axiom("B19", (k, a, starts[-1]))
+
+
 # The table, the words, and bad input
 
 
 class Table(unittest.TestCase):
-    """No axiom is without its sentence, no literal without its words."""
+    """Each axiom is true, none is without its sentence, and no literal without its words."""
+
+    def test_each_axiom_is_true_of_every_set(self):
+        """The axioms that a framework with rules needs, beside the definitions."""
+        for seed in range(SEED, SEED + 10):
+            framework = random_framework(random.Random(seed))
+            if framework.kind is Kind.ATTACKS:
+                continue
+            view, worlds = View(framework), Worlds(Plain(framework.text()))
+            for axiom in needed_of_contraries(framework):
+                left = [one for one in clause_of(axiom) if view.fact(one.atom) is None]
+                mask = 0
+                for literal in left:
+                    mask |= worlds.mask(literal)
+                true = any(view.fact(one.atom) == one.positive for one in clause_of(axiom))
+                self.assertTrue(true or mask == worlds.all, axiom)
+
+    def test_facts_of_contraries(self):
+        view = View(Framework.of_rules([1, 2], {1: (2, 4)}, [], size=4))
+        for text, value in (
+            ("Con:1:2", True), ("Con:1:4", True), ("Con:1:3", False), ("Con:1:0", False), ("Con:3:2", False),
+            ("ConGap:1:1:2", True), ("ConGap:1:1:3", False), ("ConGap:1:3:4", True), ("ConGap:1:2:2", True),
+            ("ConGap:1:5:1000001", True), ("ConGap:1:1:1000001", False), ("ConGap:2:1:1000001", True),
+            ("ConGap:3:1:1000001", False), ("ConGap:4:2:2", False), ("Hit:1:1:1", None),
+        ):
+            self.assertEqual(view.fact(literal_of(text).atom), value, text)
+
+    def test_clauses_on_contraries(self):
+        for name, numbers, clause in (
+            ("B3", (5,), "-Asm:5 Hit:1:5:1 Der:2:5"),
+            ("B14", (5,), "-Co -Asm:5 Hit:2:5:1 Member:5"),
+            ("B15", (5,), "-St -Asm:5 Member:5 Hit:1:5:1"),
+            ("B18", (2, 5, 3, 7), "-Hit:2:5:3 -ConGap:5:3:7 Der:2:7 Hit:2:5:8"),
+            ("B19", (1, 5, 8), "-Hit:1:5:8 -ConGap:5:8:1000001"),
+        ):
+            self.assertEqual(" ".join(map(str, clause_of(Axiom(name, numbers)))), clause)
 
     def test_each_axiom_has_a_sentence_for_each_literal_it_gives(self):
         for row, (_, clause) in AXIOMS.items():
             group = records.CHAINS.get(row, row)
             if row in records.SILENT:
                 continue
-            for text in clause.split():
-                name = text.removeprefix("-").split(":")[0]
-                if name in certificate.FACTS or name in MODES or name in ("Miss", "Sup") or text.split(":")[-1] not in (
-                        "a", "b", "c", "x", "j", "h", "1"):
-                    continue
-                given = f"{group} {'-' if text.startswith('-') else ''}{name}"
-                self.assertTrue(any(key == given or key.startswith(given + " ") for key in words.SENTENCES), given)
-            self.assertTrue(any(key.startswith(group + " clash") for key in words.SENTENCES), group)
+            for group in ("B3", "B14", "B15") if group == "B18" else (group,):
+                for text in clause.split():
+                    name = text.removeprefix("-").split(":")[0]
+                    inner = name in ("Miss", "Sup", "Hit") or text.split(":")[-1] not in ("a", "b", "c", "x", "j", "h", "1")
+                    if name not in certificate.FACTS and name not in MODES and not inner:
+                        given = f"{group} {'-' if text.startswith('-') else ''}{name}"
+                        found = [key for key in words.SENTENCES if key == given or key.startswith(given + " ")]
+                        self.assertTrue(found, given)
+                self.assertTrue(any(key.startswith(group + " clash") for key in words.SENTENCES), group)
 
     def test_each_literal_has_words(self):
         view = View(Framework.of_rules([1], {1: 2}, [(2, [1])]))
