@@ -8,8 +8,8 @@
     line 3 NeverUsed: c has a text, and no other line speaks of it
 
 Nothing here asks the program: what follows from some assumptions is computed here. Where one number of a rule, contrary
-or assumption of examples/anticoagulant.aba is replaced by another one, 144 of 403 such files are faulty, 216 have other
-answers, and of these 210 have a warning or a remark that the file hasn't.
+or assumption of examples/anticoagulant.aba is replaced by another one, 132 of 403 such files are faulty, 228 have other
+answers, and of these 222 have a warning or a remark that the file hasn't.
 """
 from __future__ import annotations
 
@@ -24,7 +24,7 @@ from case_text import Attacks, Concludes, Opposes, names_in
 if TYPE_CHECKING:
     from case import Case
 
-REMARKS = ("Decision", "KnownAgainst")
+REMARKS = ("Decision", "KnownAgainst", "Unopposed")
 MANY = 2_000  # assumptions past which none is looked at by itself, as that takes a closure each
 
 
@@ -93,6 +93,7 @@ def _found(case: Case, uses: _Uses) -> Iterator[LintWarning]:
         yield from _underived(case, uses)
         yield from _contraries(case, uses)
         yield from _against_twice(case)
+        yield from _unopposed(case, uses)
         yield from _defeated(case)
         yield from _unused(case, uses)
         yield from _dead_rules(case, uses)
@@ -142,6 +143,13 @@ def _contraries(case: Case, uses: _Uses) -> Iterator[LintWarning]:
             safe = uses.derivable.isdisjoint(case.framework.contraries[assumption])
             so = f"so {held} always stands" if safe else "so that changes nothing"
             yield LintWarning("UnderivableContrary", name, f"nothing leads to {name}, which is against {held}, {so}")
+
+
+def _unopposed(case: Case, uses: _Uses) -> Iterator[LintWarning]:
+    for number in case.framework.assumptions:
+        if number not in case.framework.contraries and uses.premises[number]:
+            name = case.name(number)
+            yield LintWarning("Unopposed", name, f"nothing is against {name}, so it always stands")
 
 
 def _against_twice(case: Case) -> Iterator[LintWarning]:

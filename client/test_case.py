@@ -320,6 +320,13 @@ class LintTest(unittest.TestCase):
             [("Decision", "given"), ("KnownAgainst", "untreated"), ("Decision", "untreated")],
         )
 
+    def test_what_always_stands(self):
+        """x has two contraries and z none: perhaps one of the two was meant to be against z."""
+        text = "assume x: X.\nassume z: Z.\nk: K.\nl: L.\nk against x\nl against x\nk if z\nl if z, x\n"
+        warnings = case_lint.warnings_of(Case.from_text(text))
+        remarks = [(warning.name, warning.about) for warning in warnings if warning.is_remark]
+        self.assertEqual(remarks, [("Unopposed", "z")])
+
     def test_attacks(self):
         text = "a: A.\nb: B.\nc: C.\nd: c.\na attacks b\nb attacks b, d\na attacks b\n"
         self.assertEqual(
