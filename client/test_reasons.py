@@ -755,6 +755,31 @@ end
 """
 
 
+# Of 3 and 4, which no rule gives, against 1, and 1 against 2: step 11 is a case of its own.
+NOTHING_AGAINST = """cert 1
+r
+a B16 1
+a B9 1 3
+a B11 1 3 1
+a B1 3
+a B9 1 4
+a B11 1 4 1
+a B1 4
+a B18 1 1 1 3
+a B18 1 1 4 4
+a B19 1 1 5
+d -Ad -Hit:1:1:1 Asm:3 Asm:4 -HGap:3:1:1000001 -HGap:4:1:1000001 -ConGap:1:1:3 -ConGap:1:4:4 -ConGap:1:5:1000001 0 \
+1 4 3 2 7 6 5 8 9 10
+a B3 1
+a B9 1 2
+a B11 1 2 1
+a B13 2 1
+d -Ad -Der:1:2 -Asm:1 -HGap:2:1:1000001 -Con:2:1 Asm:3 Asm:4 -HGap:3:1:1000001 -HGap:4:1:1000001 -ConGap:1:1:3 \
+-ConGap:1:4:4 -ConGap:1:5:1000001 0 11 12 14 13 15
+end
+"""
+
+
 class ByHand(unittest.TestCase):
     """Reasons compared with what was written by hand."""
 
@@ -882,6 +907,83 @@ class ByHand(unittest.TestCase):
             "1 2 and 3 could only come from each other, in a circle; so not 2.",
         ])
 
+    def test_a_case_on_several_contraries(self):
+        framework = Framework.of_rules([1, 2], {1: (3, 4), 2: 1}, [], size=4)
+        answer = No(certificate=NOTHING_AGAINST)
+        self.assertEqual(check(framework, "DC-PR", answer, 2, seconds=SECONDS), Accepted())
+        view, read = View(framework), read_certificate(NOTHING_AGAINST)
+        claim = certificate.claims_of(view, "DC-PR", 2, answer, read.sets)[0]
+        found = read_refutation(view, claim, read.refutations[0])
+        self.assertEqual(scope_faults(found, ()), [])
+        for record in walk(found.items):
+            self.assertEqual(faults(Worlds(Plain(framework.text())), found, [], record), [])
+        told = [one for sentence in Narrator(view).refutation(found) for one in sentence.all()]
+        self.assertEqual([f"{one.number} {plain(one.text, str)}{cited(one.cites)}" for one in told], [
+            "1 It doesn't have anything that speaks against 1. Suppose it did:",
+            "2 No rule gives 3, so it can't be derived.",
+            "3 No rule gives 4, so it can't be derived.",
+            "4 It can't be that only 3 and 4 speak against 1, it has something that speaks against 1, it doesn't derive "
+            "3 and it doesn't derive 4. That can't be. [1, 2]",
+            "5 Since it doesn't have anything that speaks against 1, it doesn't attack 1. [1]",
+            "6 It doesn't attack 1, which speaks against 2: it doesn't defend 2. That can't be.",
+        ])
+
+    def test_either_of_two_contraries(self):
+        """The photograph: print stands where both ways against it are shut, and falls to either."""
+        framework = self.example("photograph.aba")
+        found = reasons(framework, "EE-PR", seconds=SECONDS)
+        self.assertEqual(found.sets, [(1, 3, 5), (2, 4), (2, 5), (3, 4)])
+        first = next(one for one in found.sections if one.heading.startswith("Set 1"))
+        self.assertEqual([found.fill(one.text) for one in first.sentences], [
+            "Print stands: only rights and objection speak against it; rights needs stamp, which is out; objection "
+            "needs letter, which is out.",
+            "Remounted stands: only stamp speaks against it, which falls.",
+            "Call stands: only letter speaks against it, which falls.",
+            "Stamp falls: remounted speaks against it, and it is assumed.",
+            "Letter falls: call speaks against it, and it is assumed.",
+        ])
+        said = [found.fill(one.text) for section in found.sections for one in section.sentences]
+        self.assertIn("Print falls: rights speaks against it, and that follows.", said)
+        self.assertIn("Print falls: objection speaks against it, and that follows.", said)
+
+    def test_all_contraries_shut_out(self):
+        framework = Framework.of_rules([1, 2, 3], {1: (2, 3), 2: 1, 3: 1}, [])
+        found = reasons(framework, "EE-PR", seconds=SECONDS)
+        said = [found.fill(one.text) for section in found.sections for one in section.sentences]
+        self.assertEqual(said[0], "1 stands: only 2 and 3 speak against it, and both fall.")
+        framework = Framework.of_rules([1, 2, 4], {1: (2, 3, 5), 2: (4, 6)}, [(5, [2])])
+        self.assertEqual(self.section(framework, "SE-GR", None, "The grounded set"), [
+            "It assumes 1 and 4.",
+            "1 1 stands: only 2, 3 and 5 speak against it; 2 falls; 3 has no rule; 5 needs 2, which is out.",
+            "2 4 stands: nothing speaks against it.",
+            "3 2 falls: 4 speaks against it, and it is assumed.",
+        ])
+
+    def test_sentences_on_several_contraries(self):
+        """Each way in which an axiom on all contraries of 1, which are 2 and 3, may speak."""
+        view = View(Framework.of_rules([1, 2], {1: (2, 3)}, [(3, [])]))
+        walk_of = lambda k: tuple(Axiom(*one) for one in (("B18", (k, 1, 1, 2)), ("B18", (k, 1, 3, 3)), ("B19", (k, 1, 4))))
+        for group, k, conclusion, said in (
+            ("B3", 1, "Der:2:1", "it has none of what speaks against 1 (2 and 3), so it doesn't attack 1"),
+            ("B3", 1, "Der:1:2", "it attacks 1, and of what speaks against 1 (2 and 3) it can only have 2; so it "
+                                 "assumes 2"),
+            ("B3", 1, None, "it attacks 1, but has none of what speaks against 1 (2 and 3)"),
+            ("B14", 2, "Member:1", "it shuts out all that speaks against 1 (2 and 3), so it assumes 1"),
+            ("B14", 2, "Der:2:3", "it doesn't assume 1, so something that speaks against 1 (2 and 3) stays open; only 3 "
+                                  "may, so it leaves 3 open"),
+            ("B14", 2, None, "it shuts out all that speaks against 1 (2 and 3), but doesn't assume 1"),
+            ("B15", 1, "Member:1", "it must assume or attack 1; it has none of what speaks against 1 (2 and 3), so it "
+                                   "assumes 1"),
+            ("B15", 1, "Der:1:3", "it must assume or attack 1; it doesn't assume it, and of what speaks against 1 (2 and "
+                                  "3) it can only have 3, so it derives 3"),
+            ("B15", 1, None, "it neither assumes 1 nor has anything that speaks against 1 (2 and 3)"),
+        ):
+            steps = (Axiom(group, (1,)), *walk_of(k))
+            concluded = None if conclusion is None else literal_of(conclusion)
+            record = Record(group, concluded, (), records.facts_of(view, steps), steps)
+            self.assertEqual(plain(Wording(view).of(record), str), said)
+            self.assertEqual(only(record, "contraries"), [(1, (2, 3))])
+
     def test_grounded(self):
         found = self.section(self.example("rivals.af"), "SE-GR", None, "The grounded set")
         self.assertEqual(found[1:], [
@@ -998,7 +1100,8 @@ class BadInput(unittest.TestCase):
         self.assertIn("These reasons take", found.text() + made) if any(s.summary for s in found.sections) else None
 
     def test_each_task_of_the_examples_has_its_text_and_page(self):
-        for name, number in (("inheritance.af", 4), ("anticoagulant.aba", 8), ("loops.af", 2), ("self.af", 1)):
+        examples = (("inheritance.af", 4), ("anticoagulant.aba", 8), ("photograph.aba", 1), ("loops.af", 2), ("self.af", 1))
+        for name, number in examples:
             framework = Framework.from_file(EXAMPLES / name)
             for task in framework.tasks:
                 found = reasons(framework, task, number if task.startswith("D") else None, seconds=SECONDS)
