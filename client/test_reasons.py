@@ -711,8 +711,8 @@ class Table(unittest.TestCase):
             for group in ("B3", "B14", "B15") if group == "B18" else (group,):
                 for text in clause.split():
                     name = text.removeprefix("-").split(":")[0]
-                    inner = name in ("Miss", "Sup", "Hit") or text.split(":")[-1] not in ("a", "b", "c", "x", "j", "h", "1")
-                    if name not in certificate.FACTS and name not in MODES and not inner:
+                    unsaid = name in certificate.FACTS or name in MODES or name in ("Miss", "Sup", "Hit")
+                    if not unsaid and text.split(":")[-1] in ("a", "b", "c", "x", "j", "h", "1"):
                         given = f"{group} {'-' if text.startswith('-') else ''}{name}"
                         found = [key for key in words.SENTENCES if key == given or key.startswith(given + " ")]
                         self.assertTrue(found, given)
@@ -922,8 +922,8 @@ class ByHand(unittest.TestCase):
             "1 It doesn't have anything that speaks against 1. Suppose it did:",
             "2 No rule gives 3, so it can't be derived.",
             "3 No rule gives 4, so it can't be derived.",
-            "4 It can't be that only 3 and 4 speak against 1, it has something that speaks against 1, it doesn't derive "
-            "3 and it doesn't derive 4. That can't be. [1, 2]",
+            "4 It can't be that only 3 and 4 speak against 1, it has something that speaks against 1, it doesn't "
+            "derive 3 and it doesn't derive 4. That can't be. [1, 2]",
             "5 Since it doesn't have anything that speaks against 1, it doesn't attack 1. [1]",
             "6 It doesn't attack 1, which speaks against 2: it doesn't defend 2. That can't be.",
         ])
@@ -962,20 +962,20 @@ class ByHand(unittest.TestCase):
     def test_sentences_on_several_contraries(self):
         """Each way in which an axiom on all contraries of 1, which are 2 and 3, may speak."""
         view = View(Framework.of_rules([1, 2], {1: (2, 3)}, [(3, [])]))
-        walk_of = lambda k: tuple(Axiom(*one) for one in (("B18", (k, 1, 1, 2)), ("B18", (k, 1, 3, 3)), ("B19", (k, 1, 4))))
+        walk_of = lambda k: (Axiom("B18", (k, 1, 1, 2)), Axiom("B18", (k, 1, 3, 3)), Axiom("B19", (k, 1, 4)))
         for group, k, conclusion, said in (
             ("B3", 1, "Der:2:1", "it has none of what speaks against 1 (2 and 3), so it doesn't attack 1"),
             ("B3", 1, "Der:1:2", "it attacks 1, and of what speaks against 1 (2 and 3) it can only have 2; so it "
                                  "assumes 2"),
             ("B3", 1, None, "it attacks 1, but has none of what speaks against 1 (2 and 3)"),
             ("B14", 2, "Member:1", "it shuts out all that speaks against 1 (2 and 3), so it assumes 1"),
-            ("B14", 2, "Der:2:3", "it doesn't assume 1, so something that speaks against 1 (2 and 3) stays open; only 3 "
-                                  "may, so it leaves 3 open"),
+            ("B14", 2, "Der:2:3", "it doesn't assume 1, so something that speaks against 1 (2 and 3) stays open; only "
+                                  "3 may, so it leaves 3 open"),
             ("B14", 2, None, "it shuts out all that speaks against 1 (2 and 3), but doesn't assume 1"),
             ("B15", 1, "Member:1", "it must assume or attack 1; it has none of what speaks against 1 (2 and 3), so it "
                                    "assumes 1"),
-            ("B15", 1, "Der:1:3", "it must assume or attack 1; it doesn't assume it, and of what speaks against 1 (2 and "
-                                  "3) it can only have 3, so it derives 3"),
+            ("B15", 1, "Der:1:3", "it must assume or attack 1; it doesn't assume it, and of what speaks against 1 (2 "
+                                  "and 3) it can only have 3, so it derives 3"),
             ("B15", 1, None, "it neither assumes 1 nor has anything that speaks against 1 (2 and 3)"),
         ):
             steps = (Axiom(group, (1,)), *walk_of(k))
@@ -1100,8 +1100,9 @@ class BadInput(unittest.TestCase):
         self.assertIn("These reasons take", found.text() + made) if any(s.summary for s in found.sections) else None
 
     def test_each_task_of_the_examples_has_its_text_and_page(self):
-        examples = (("inheritance.af", 4), ("anticoagulant.aba", 8), ("photograph.aba", 1), ("loops.af", 2), ("self.af", 1))
-        for name, number in examples:
+        attacks = (("inheritance.af", 4), ("loops.af", 2), ("self.af", 1))
+        rules = (("anticoagulant.aba", 8), ("photograph.aba", 1))
+        for name, number in attacks + rules:
             framework = Framework.from_file(EXAMPLES / name)
             for task in framework.tasks:
                 found = reasons(framework, task, number if task.startswith("D") else None, seconds=SECONDS)
