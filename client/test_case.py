@@ -290,6 +290,22 @@ class LiveTest(unittest.TestCase):
             ],
         )
 
+    def test_contraries_by_name(self):
+        """That there is an allergy is known, so that it speaks against giving the drug is enough."""
+        case = Case.from_text("assume given\nknown allergy\nwish: W.\nwish against given\n")
+        script = case.script("1 addcon given allergy\n1 delcon given wish\n1 ask SE-GR\n1 delcon given wish\n")
+        self.assertEqual(script.text().splitlines()[:2], ["1 addcon 1 2", "1 delcon 1 3"])
+        transcript = script.run(case.framework, certify=False)
+        self.assertEqual(
+            [case.told_reply(reply, transcript) for reply in transcript.replies],
+            [
+                ("session 1, at 1: addcon given allergy", "OK"),
+                ("session 1, at 2: delcon given wish", "OK"),
+                ("session 1, at 2: ask SE-GR", "the empty set, and so allergy"),
+                ("session 1, at 2: delcon given wish", "REFUSED NoSuchContrary"),
+            ],
+        )
+
     def test_dropped_arguments(self):
         case = Case.from_text(WITNESS)
         transcript = case.script("1 noarg sighting\n1 ask SE-GR").run(case.framework)
