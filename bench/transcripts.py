@@ -58,6 +58,16 @@ SEVERAL = [
         [],
     ),
     (
+        "four sessions with several contraries",
+        "p aba 6\na 1\na 2\na 3\nc 1 4\nc 1 5\nc 2 1\nr 4 2\nr 5 3\nr 6 1\n",
+        "".join(
+            f"{s} delcon 1 5\n{s} ask EE-PR\n{s} addcon 1 3\n{s} ask DS-PR 6\n{s} addcon 3 {s}\n{s} delcon 1 4\n"
+            f"{s} ask EE-CO\n{s} con 1 5\n{s} ask SE-ST\n{s} addcon 1 4\n{s} delcon 3 {s}\n{s} delcon 1 3\n"
+            for s in range(1, 5)
+        ),
+        [],
+    ),
+    (
         "four sessions that ask for stable sets of rings",
         "p af 9\n1 2\n2 3\n3 1\n4 5\n5 6\n6 4\n7 8\n8 9\n9 7\n",
         "".join(
@@ -139,8 +149,13 @@ class Af:
         return all(attacker in beaten for attacker, target in self.attacks if target == member)
 
 
+def only(contrary):
+    """The contraries where this one is the only one, or 0, and none is there."""
+    return frozenset([contrary] if contrary else [])
+
+
 class Aba:
-    """A flat framework of assumptions."""
+    """A flat framework of assumptions, with the contraries of each."""
 
     tasks = {"CO", "GR", "PR", "ST"}
 
@@ -158,7 +173,7 @@ class Aba:
                 raise Refused("AssumptionIsThere")
             if numbers[0] in heads:
                 raise Refused(f"NotFlat {numbers[0]}")
-            contraries[numbers[0]] = numbers[1]
+            contraries[numbers[0]] = only(numbers[1])
         elif name == "noasm":
             in_range(numbers[0], 1, self.atoms)
             if numbers[0] not in contraries:
@@ -169,7 +184,15 @@ class Aba:
             in_range(numbers[1], 0, self.atoms)
             if numbers[0] not in contraries:
                 raise Refused(f"UnknownAssumption {numbers[0]}")
-            contraries[numbers[0]] = numbers[1]
+            contraries[numbers[0]] = only(numbers[1])
+        elif name in ("addcon", "delcon"):
+            for number in numbers:
+                in_range(number, 1, self.atoms)
+            if numbers[0] not in contraries:
+                raise Refused(f"UnknownAssumption {numbers[0]}")
+            if (numbers[1] in contraries[numbers[0]]) == (name == "addcon"):
+                raise Refused("ContraryIsThere" if name == "addcon" else "NoSuchContrary")
+            contraries[numbers[0]] ^= {numbers[1]}
         elif name == "rule":
             for number in numbers:
                 in_range(number, 1, self.atoms)
@@ -206,12 +229,12 @@ class Aba:
 
     def attacked(self, chosen):
         derived = self.closure(chosen)
-        return {a for a, contrary in self.contraries.items() if contrary in derived}
+        return {a for a, against in self.contraries.items() if against & derived}
 
     def defends(self, chosen, beaten, member):
-        """Whether the set attacks each set that attacks the member: that none which it doesn't attack derives the
-        contrary."""
-        return self.contraries[member] not in self.closure(set(self.contraries) - beaten)
+        """Whether the set attacks each set that attacks the member: that none which it doesn't attack derives a
+        contrary of it."""
+        return self.contraries[member].isdisjoint(self.closure(set(self.contraries) - beaten))
 
 
 def is_within(smaller, sets):
@@ -385,8 +408,10 @@ def framework_of(text):
     count = int(rows[0][2])
     if rows[0][1] == "af":
         return Af(range(1, count + 1), {(int(b), int(a)) for b, a in rows[1:]})
-    contraries = {int(row[1]): 0 for row in rows if row[0] == "a"}
-    contraries.update({int(row[1]): int(row[2]) for row in rows if row[0] == "c"})
+    contraries = {int(row[1]): frozenset() for row in rows if row[0] == "a"}
+    for row in rows:
+        if row[0] == "c":
+            contraries[int(row[1])] |= {int(row[2])}
     heads = [[int(word) for word in row[1:]] for row in rows if row[0] == "r"]
     rules = {at + 1: (row[0], frozenset(row[1:])) for at, row in enumerate(heads)}
     return Aba(count, contraries, rules, len(rules) + 1)

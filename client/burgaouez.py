@@ -17,8 +17,9 @@ The stable interface, on which other modules may rely:
 - `size`: N, so that the arguments or statements are 1 to N; `arguments` and `atoms` are that range for the one kind and
   empty for the other; `members` are the numbers that a set may hold: all arguments, or the assumptions;
 - `attacks`: a tuple of `Attack(attacker, target)`, each once, in the order of their first lines;
-- `assumptions`: a tuple of rising numbers; `contraries`: a mapping from an assumption to its contrary, without those
-  that have none; `rules`: a tuple of `Rule(number, head, body)` in the order of their lines;
+- `assumptions`: a tuple of rising numbers; `contraries`: a mapping from an assumption to the rising tuple of its
+  contraries, without those that have none; `contrary_pairs`: the same as pairs of an assumption and a contrary of it,
+  rising; `rules`: a tuple of `Rule(number, head, body)` in the order of their lines;
 - `texts`, `names`: mappings from a number to its sentence and its short name, for the numbers that have one.
 
 `solve(framework, task, query=None, budget=None)` returns `Yes`, `No`, `Sets` or `Unknown`. The first three have a
@@ -50,6 +51,7 @@ from typing import NamedTuple, Optional, Union
 LARGEST_NUMBER = 1_000_000
 LARGEST_FIELD = 4_294_967_295
 MOST_ATTACK_LINES = 10_000_000
+MOST_CONTRARY_LINES = 10_000_000
 MOST_RULE_LINES = 1_000_000
 TASKS = tuple(
     "DC-CO DC-GR DC-PR DC-ST DC-SST DC-ID DC-STG DS-CO DS-GR DS-PR DS-ST DS-SST DS-ID DS-STG "
@@ -228,7 +230,7 @@ class Framework:
     size: int
     attacks: tuple[Attack, ...] = ()
     assumptions: Numbers = ()
-    contraries: Mapping[int, int] = field(default_factory=dict)
+    contraries: Mapping[int, Numbers] = field(default_factory=dict)
     rules: tuple[Rule, ...] = ()
     texts: Mapping[int, str] = field(default_factory=dict)
     names: Mapping[int, str] = field(default_factory=dict)
@@ -273,30 +275,34 @@ class Framework:
     def of_rules(
         cls,
         assumptions: Iterable[int],
-        contraries: Mapping[int, int],
+        contraries: Mapping[int, Union[int, Iterable[int]]],
         rules: Iterable[tuple[int, Iterable[int]]],
         size: Optional[int] = None,
         texts: Optional[Mapping[int, str]] = None,
         names: Optional[Mapping[int, str]] = None,
     ) -> Framework:
-        """The framework of assumptions, the contrary of each that has one, and rules as pairs of a head and its body,
-        which are numbered from 1 in this order.
+        """The framework of assumptions, the contrary or contraries of each that has any, and rules as pairs of a head
+        and its body, which are numbered from 1 in this order.
 
         >>> Framework.of_rules([1], {1: 2}, [(2, [1])]).rules
         (Rule(number=1, head=2, body=(1,)),)
+        >>> Framework.of_rules([1, 2], {1: [3, 2], 2: 3}, []).contraries
+        {1: (2, 3), 2: (3,)}
         """
         assumed = tuple(sorted(set(assumptions)))
         numbered = tuple(
             Rule(number, head, tuple(dict.fromkeys(body))) for number, (head, body) in enumerate(rules, start=1)
         )
+        against = _rows({a: (c,) if isinstance(c, int) else c for a, c in contraries.items()})
         if size is None:
-            used = [*assumed, *contraries.values(), *(n for rule in numbered for n in (rule.head, *rule.body))]
+            used = [*assumed, *(n for row in against.values() for n in row)]
+            used += [n for rule in numbered for n in (rule.head, *rule.body)]
             size = max(used, default=0)
         return cls(
             Kind.RULES,
             size,
             assumptions=assumed,
-            contraries=dict(contraries),
+            contraries=against,
             rules=numbered,
             texts=dict(texts or {}),
             names=dict(names or {}),
@@ -334,6 +340,11 @@ class Framework:
     def members(self) -> Sequence[int]:
         """The numbers that a set may hold, rising: all arguments, or the assumptions."""
         return self.arguments if self.kind is Kind.ATTACKS else self.assumptions
+
+    @property
+    def contrary_pairs(self) -> tuple[tuple[int, int], ...]:
+        """The pairs of an assumption and a contrary of it, by assumption, then by contrary."""
+        return tuple((number, contrary) for number, row in sorted(self.contraries.items()) for contrary in row)
 
     @property
     def tasks(self) -> tuple[str, ...]:
@@ -398,7 +409,7 @@ class Framework:
         lines += [_comment(number, self.names.get(number), self.texts.get(number)) for number in self._told()]
         lines += [f"{attack.attacker} {attack.target}" for attack in self.attacks]
         lines += [f"a {number}" for number in self.assumptions]
-        lines += [f"c {number} {contrary}" for number, contrary in self.contraries.items()]
+        lines += [f"c {number} {contrary}" for number, contrary in self.contrary_pairs]
         lines += [" ".join(map(str, ("r", rule.head, *rule.body))) for rule in self.rules]
         return "\n".join(lines) + "\n"
 
@@ -409,7 +420,8 @@ class Framework:
         for attack in self.attacks:
             yield from attack
         yield from self.assumptions
-        yield from self.contraries.values()
+        for row in self.contraries.values():
+            yield from row
         for rule in self.rules:
             yield rule.head
             yield from rule.body
@@ -423,8 +435,14 @@ def _comment(number: int, name: Optional[str], text: Optional[str]) -> str:
     return f"{words}: {said}".rstrip()
 
 
+def _rows(contraries: Mapping[int, Iterable[int]]) -> dict[int, Numbers]:
+    """The contraries of each assumption that has any, all rising."""
+    rows = {number: tuple(sorted(set(row))) for number, row in sorted(contraries.items())}
+    return {number: row for number, row in rows.items() if row}
+
+
 def _edited(framework: Framework, edit: Edit, rule: int) -> Framework:
-    assumed, contraries, rules = framework.assumptions, dict(framework.contraries), framework.rules
+    rules = framework.rules
     match edit:
         case AddArgument(number) if number == framework.size + 1:
             return replace(framework, size=number)
@@ -439,15 +457,24 @@ def _edited(framework: Framework, edit: Edit, rule: int) -> Framework:
             return replace(framework, rules=(*rules, Rule(rule, head, body)))
         case DropRule(number):
             return replace(framework, rules=tuple(one for one in rules if one.number != number))
+    return _assuming(framework, edit)
+
+
+def _assuming(framework: Framework, edit: Edit) -> Framework:
+    """The framework behind an edit of an assumption or of its contraries."""
+    assumed, row = framework.assumptions, framework.contraries.get(edit.assumption, ())
+    match edit:
         case AddAssumption(assumption, contrary):
-            assumed = tuple(sorted({*assumed, assumption}))
+            assumed, row = tuple(sorted({*assumed, assumption})), (contrary,) if contrary else ()
         case DropAssumption(assumption):
-            assumed, contrary = tuple(number for number in assumed if number != assumption), 0
-        case SetContrary(assumption, contrary):
-            pass
-    contraries = {number: other for number, other in contraries.items() if number != assumption}
-    contraries |= {assumption: contrary} if contrary else {}
-    return replace(framework, assumptions=assumed, contraries=contraries)
+            assumed, row = tuple(number for number in assumed if number != assumption), ()
+        case SetContrary(_, contrary):
+            row = (contrary,) if contrary else ()
+        case AddContrary(_, contrary):
+            row = (*row, contrary)
+        case DropContrary(_, contrary):
+            row = tuple(number for number in row if number != contrary)
+    return replace(framework, assumptions=assumed, contraries=_rows({**framework.contraries, edit.assumption: row}))
 
 
 # The reader of a framework's text
@@ -488,8 +515,9 @@ class _Reading:
         self.attack_lines = 0
         self.attacks: dict[Attack, None] = {}
         self.assumptions: set[int] = set()
-        self.contraries: dict[int, int] = {}
-        self.contrary_lines: dict[int, int] = {}
+        self.contrary_lines = 0
+        self.contraries: dict[int, set[int]] = {}
+        self.first_lines: dict[int, int] = {}
         self.rules: list[Rule] = []
         self.heads: set[int] = set()
 
@@ -528,8 +556,12 @@ class _Reading:
 
     def _take_contrary(self, line: _Line, numbers: list[int]) -> Optional[str]:
         assumption, contrary = numbers
-        self.contrary_lines.setdefault(assumption, line.number)
-        return "SecondContrary" if self.contraries.setdefault(assumption, contrary) != contrary else None
+        self.contrary_lines += 1
+        if self.contrary_lines > MOST_CONTRARY_LINES:
+            return "TooManyLines"
+        self.first_lines.setdefault(assumption, line.number)
+        self.contraries.setdefault(assumption, set()).add(contrary)
+        return None
 
     def _take_rule(self, line: _Line, numbers: list[int]) -> Optional[str]:
         if len(self.rules) == MOST_RULE_LINES:
@@ -540,7 +572,7 @@ class _Reading:
 
     def stray_contrary(self) -> Optional[int]:
         """The first line that gives a contrary to no assumption."""
-        stray = [line for number, line in self.contrary_lines.items() if number not in self.assumptions]
+        stray = [line for number, line in self.first_lines.items() if number not in self.assumptions]
         return min(stray, default=None)
 
 
@@ -576,7 +608,7 @@ def _framework_of(text: str) -> Framework:
         reading.size,
         attacks=tuple(reading.attacks),
         assumptions=tuple(sorted(reading.assumptions)),
-        contraries=reading.contraries,
+        contraries=_rows(reading.contraries),
         rules=tuple(reading.rules),
         texts=texts,
         names=names,
@@ -937,7 +969,7 @@ class DropAttack(NamedTuple):
 
 
 class AddAssumption(NamedTuple):
-    """`asm A C`: with the contrary 0 nothing speaks against the assumption."""
+    """`asm A C`: C is the only contrary; with 0 nothing speaks against the assumption."""
 
     assumption: int
     contrary: int = 0
@@ -950,7 +982,21 @@ class DropAssumption(NamedTuple):
 
 
 class SetContrary(NamedTuple):
-    """`con A C`: with the contrary 0 nothing speaks against the assumption any more."""
+    """`con A C`: C is the only contrary from now on; with 0 nothing speaks against the assumption any more."""
+
+    assumption: int
+    contrary: int
+
+
+class AddContrary(NamedTuple):
+    """`addcon A C`: C is a contrary too."""
+
+    assumption: int
+    contrary: int
+
+
+class DropContrary(NamedTuple):
+    """`delcon A C`: C is no contrary any more; the others stay."""
 
     assumption: int
     contrary: int
@@ -984,6 +1030,8 @@ Edit = Union[
     AddAssumption,
     DropAssumption,
     SetContrary,
+    AddContrary,
+    DropContrary,
     AddRule,
     DropRule,
 ]
@@ -997,6 +1045,8 @@ EDITS: dict[str, type] = {
     "asm": AddAssumption,
     "noasm": DropAssumption,
     "con": SetContrary,
+    "addcon": AddContrary,
+    "delcon": DropContrary,
     "rule": AddRule,
     "norule": DropRule,
 }

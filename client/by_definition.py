@@ -1,7 +1,7 @@
 """Answers every task by its definition, over all subsets: slow, short, and only for the tests.
 
 It knows nothing of how `argue` works, and reads no text: it takes a `Framework`. Sets are frozensets of arguments or
-assumptions. With rules, a set attacks an assumption where the assumption's contrary follows from the set."""
+assumptions. With rules, a set attacks an assumption where one of the assumption's contraries follows from the set."""
 from __future__ import annotations
 
 from itertools import chain, combinations
@@ -46,7 +46,7 @@ class Definitions:
         if self.framework.kind is Kind.ATTACKS:
             return frozenset(attack.target for attack in self.framework.attacks if attack.attacker in one)
         derived = following(self.framework, one)
-        return frozenset(member for member, contrary in self.framework.contraries.items() if contrary in derived)
+        return frozenset(member for member, row in self.framework.contraries.items() if not derived.isdisjoint(row))
 
     def defends(self, one: Members, member: int) -> bool:
         """The set attacks a member of each set that attacks this one."""
@@ -127,11 +127,14 @@ def drawn_attacks(choose: Random, most: int = 6) -> Framework:
 
 
 def drawn_rules(choose: Random, most: int = 4) -> Framework:
-    """A framework of up to `most` assumptions and as many other statements and three more, with some rules. A contrary
-    may be an assumption too."""
+    """A framework of up to `most` assumptions and as many other statements and three more, with some rules. An
+    assumption has up to three contraries, which may be assumptions too."""
     assumed, others = choose.randint(0, most), choose.randint(1, most + 3)
     size = assumed + others
-    contraries = {number: choose.randint(1, size) for number in range(1, assumed + 1) if choose.random() < 0.9}
+    contraries = {
+        number: [choose.randint(1, size) for _ in range(choose.choice((0, 1, 1, 1, 2, 2, 3)))]
+        for number in range(1, assumed + 1)
+    }
     rules = [
         (choose.randint(assumed + 1, size), [choose.randint(1, size) for _ in range(choose.choice((0, 1, 1, 2, 3)))])
         for _ in range(choose.randint(0, 2 * others))

@@ -12,7 +12,7 @@ A line of a case is one of these, and says by its words of which kind the case i
     witness attacks fault, letter          an argument attacks others: a case of attacks
     assume given: The drug is given.       an assumption; from here on: a case of rules
     known record: There is a record.       a statement that holds without more
-    unsafe against given                   the statement that speaks against an assumption
+    unsafe against given                   a statement that speaks against an assumption, which may have several
     unsafe if record, interaction          a statement follows where others hold
 
 A name is a letter and then letters, digits, `-` and `_`, and none of the words above. Names get numbers in the order in
@@ -171,9 +171,11 @@ class Case:
         return "itself" if attack.attacker == attack.target else self.sentence(attack.target)
 
     def _assumption_sentence(self, number: int) -> str:
-        contrary = self.framework.contraries.get(number)
-        against = "nothing speaks" if contrary is None else f"{self.sentence(contrary)} speaks"
-        return f"{self.sentence(number)} may be assumed; {against} against it."
+        contraries = [self.sentence(contrary) for contrary in self.framework.contraries.get(number, ())]
+        against = " and ".join(contraries) or "nothing"
+        if len(contraries) > 1:
+            against = f"each of {against}"
+        return f"{self.sentence(number)} may be assumed; {against} speaks against it."
 
     def _rule_sentence(self, rule: Rule) -> str:
         if not rule.body:
@@ -275,9 +277,13 @@ def _framework(lines: CaseLines) -> Framework:
             for target in one.targets
         ]
         return Framework.of_attacks(attacks, len(numbers), texts, names)
+    contraries: dict[int, list[int]] = {}
+    for one in statements:
+        if isinstance(one, Opposes):
+            contraries.setdefault(numbers[one.assumption], []).append(numbers[one.contrary])
     return Framework.of_rules(
         [numbers[one.name] for one in statements if isinstance(one, Assumes)],
-        {numbers[one.assumption]: numbers[one.contrary] for one in statements if isinstance(one, Opposes)},
+        contraries,
         [
             (numbers[one.head], [numbers[name] for name in one.body])
             for one in statements
@@ -306,7 +312,7 @@ def _text(case: Case) -> str:
         else:
             then.append(f"{case.name(attacker)} attacks {case.name(target)}")
         last = attacker
-    then += [f"{case.name(contrary)} against {case.name(number)}" for number, contrary in framework.contraries.items()]
+    then += [f"{case.name(contrary)} against {case.name(number)}" for number, contrary in framework.contrary_pairs]
     then += [
         f"{case.name(rule.head)} if {case.listed(rule.body)}" if rule.body else f"known {case.name(rule.head)}"
         for rule in framework.rules

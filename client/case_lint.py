@@ -8,8 +8,8 @@
     line 3 NeverUsed: c has a text, and no other line speaks of it
 
 Nothing here asks the program: what follows from some assumptions is computed here. Where one number of a rule, contrary
-or assumption of examples/anticoagulant.aba is replaced by another one, 144 of 403 such files are faulty, 216 have other
-answers, and of these 210 have a warning or a remark that the file hasn't.
+or assumption of examples/anticoagulant.aba is replaced by another one, 132 of 403 such files are faulty, 228 have other
+answers, and of these 222 have a warning or a remark that the file hasn't.
 """
 from __future__ import annotations
 
@@ -19,12 +19,12 @@ from dataclasses import dataclass
 from typing import TYPE_CHECKING, Optional
 
 from burgaouez import Framework, Kind, Rule
-from case_text import Attacks, Concludes, names_in
+from case_text import Attacks, Concludes, Opposes, names_in
 
 if TYPE_CHECKING:
     from case import Case
 
-REMARKS = ("Decision", "KnownAgainst")
+REMARKS = ("Decision", "KnownAgainst", "Unopposed")
 MANY = 2_000  # assumptions past which none is looked at by itself, as that takes a closure each
 
 
@@ -56,7 +56,7 @@ class _Uses:
         self.assumed = set(framework.assumptions)
         self.heads = Counter(rule.head for rule in framework.rules)
         self.premises = Counter(number for rule in framework.rules for number in rule.body)
-        self.against = Counter(framework.contraries.values())
+        self.against = Counter(contrary for _, contrary in framework.contrary_pairs)
         self.attackers = Counter(attack.attacker for attack in framework.attacks)
         self.targets = Counter(attack.target for attack in framework.attacks)
         self.derivable = set(framework.closure(framework.assumptions))
@@ -64,7 +64,7 @@ class _Uses:
     def count(self, number: int) -> int:
         """How many lines speak of a number, its text aside."""
         tables = (self.heads, self.premises, self.against, self.attackers, self.targets)
-        roles = (number in self.assumed) + (number in self.framework.contraries)
+        roles = (number in self.assumed) + len(self.framework.contraries.get(number, ()))
         return roles + sum(table[number] for table in tables)
 
 
@@ -92,6 +92,8 @@ def _found(case: Case, uses: _Uses) -> Iterator[LintWarning]:
     else:
         yield from _underived(case, uses)
         yield from _contraries(case, uses)
+        yield from _against_twice(case)
+        yield from _unopposed(case, uses)
         yield from _defeated(case)
         yield from _unused(case, uses)
         yield from _dead_rules(case, uses)
@@ -133,26 +135,47 @@ def _underived(case: Case, uses: _Uses) -> Iterator[LintWarning]:
 
 
 def _contraries(case: Case, uses: _Uses) -> Iterator[LintWarning]:
-    for assumption, contrary in case.framework.contraries.items():
+    for assumption, contrary in case.framework.contrary_pairs:
         name, held = case.name(contrary), case.name(assumption)
         if contrary == assumption:
             yield LintWarning("OwnContrary", name, f"{name} is against itself, so no position can hold it")
         elif contrary not in uses.derivable:
-            says = f"nothing leads to {name}, which is against {held}, so {held} always stands"
-            yield LintWarning("UnderivableContrary", name, says)
+            safe = uses.derivable.isdisjoint(case.framework.contraries[assumption])
+            so = f"so {held} always stands" if safe else "so that changes nothing"
+            yield LintWarning("UnderivableContrary", name, f"nothing leads to {name}, which is against {held}, {so}")
+
+
+def _unopposed(case: Case, uses: _Uses) -> Iterator[LintWarning]:
+    for number in case.framework.assumptions:
+        if number not in case.framework.contraries and uses.premises[number]:
+            name = case.name(number)
+            yield LintWarning("Unopposed", name, f"nothing is against {name}, so it always stands")
+
+
+def _against_twice(case: Case) -> Iterator[LintWarning]:
+    seen: set[tuple[str, str]] = set()
+    for statement in case.statements:
+        if isinstance(statement, Opposes):
+            pair = statement.contrary, statement.assumption
+            if pair in seen:
+                says = f"that {pair[0]} is against {pair[1]} is said twice"
+                yield LintWarning("AgainstTwice", pair[0], says, statement.line)
+            seen.add(pair)
 
 
 def _defeated(case: Case) -> Iterator[LintWarning]:
     """Assumptions that can't be held, whatever else is assumed."""
     framework = case.framework
     known = set(framework.closure(()))
-    for assumption, contrary in framework.contraries.items():
-        name, against = case.name(assumption), case.name(contrary)
-        if contrary in known:
-            says = f"{against} is against {name} and follows from what is known, so {name} never stands"
-            yield LintWarning("KnownAgainst", name, says)
-        elif len(framework.assumptions) <= MANY and assumption != contrary:
-            if contrary in framework.closure((assumption,)):
+    few = len(framework.assumptions) <= MANY
+    for assumption, contraries in framework.contraries.items():
+        name, derived = case.name(assumption), framework.closure((assumption,)) if few else ()
+        for contrary in contraries:
+            against = case.name(contrary)
+            if contrary in known:
+                says = f"{against} is against {name} and follows from what is known, so {name} never stands"
+                yield LintWarning("KnownAgainst", name, says)
+            elif contrary in derived and contrary != assumption:
                 says = f"from {name} follows {against}, which is against it, so no position can hold {name}"
                 yield LintWarning("SelfDefeat", name, says)
 

@@ -33,7 +33,6 @@ class FaultName(Enum):
     UNKNOWN_NAME = "UnknownName"
     ASSUMED_HEAD = "AssumedHead"
     NOT_ASSUMED = "NotAssumed"
-    SECOND_CONTRARY = "SecondContrary"
     TOO_MANY = "TooMany"
 
 
@@ -271,32 +270,25 @@ def _bad_heads(statements: Sequence[Statement]) -> Iterator[CaseFault]:
 
 def _bad_contraries(statements: Sequence[Statement]) -> Iterator[CaseFault]:
     assumed = {statement.name for statement in statements if isinstance(statement, Assumes)}
-    contraries: dict[str, str] = {}
     for statement in statements:
-        if not isinstance(statement, Opposes):
-            continue
-        if statement.assumption not in assumed:
+        if isinstance(statement, Opposes) and statement.assumption not in assumed:
             near = suggestion(get_close_matches(statement.assumption, assumed, n=1))
             advice = f"{statement.assumption} isn't assumed, so nothing can be against it{near}"
             yield CaseFault(statement.line, FaultName.NOT_ASSUMED, advice)
-        if contraries.setdefault(statement.assumption, statement.contrary) != statement.contrary:
-            advice = (
-                f"{contraries[statement.assumption]} is against {statement.assumption} already;"
-                " let both conclude one statement that is"
-            )
-            yield CaseFault(statement.line, FaultName.SECOND_CONTRARY, advice)
 
 
 def _too_many(statements: Sequence[Statement], numbers: Mapping[str, int]) -> Iterator[CaseFault]:
-    rules = attacks = 0
+    rules = attacks = against = 0
     for statement in statements:
         rules += isinstance(statement, Concludes)
+        against += isinstance(statement, Opposes)
         attacks += len(statement.targets) if isinstance(statement, Attacks) else 0
         last = max(numbers[name] for name in names_in(statement))
         if (
             last > burgaouez.LARGEST_NUMBER
             or rules > burgaouez.MOST_RULE_LINES
             or attacks > burgaouez.MOST_ATTACK_LINES
+            or against > burgaouez.MOST_CONTRARY_LINES
         ):
             yield CaseFault(statement.line, FaultName.TOO_MANY, "a case has 1,000,000 names and rules at most")
             return

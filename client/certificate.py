@@ -13,7 +13,7 @@ from burgaouez import Framework, Kind, No, Numbers, Sets, Yes
 END = 1_000_001
 OWN, REST = 1, 2
 MODES = ("Cf", "Ad", "Co", "St")
-FACTS = frozenset("Live Attack Gap Asm Con Head HGap Body BGap".split())
+FACTS = frozenset("Live Attack Gap Asm Con ConGap Head HGap Body BGap".split())
 
 # Each axiom as the names of its numbers, and its clause. B9, A14 and B16 have one row for each first number.
 AXIOMS = {
@@ -35,7 +35,7 @@ AXIOMS = {
     "A14 3": ("", "-St Co"),
     "B1": ("a", "-Cf -Member:a Asm:a"),
     "B2": ("a", "-Member:a Der:1:a"),
-    "B3": ("a c", "-Con:a:c Der:1:c Der:2:a"),
+    "B3": ("a", "-Asm:a Hit:1:a:1 Der:2:a"),
     "B4": ("k", "-Der:k:0"),
     "B5": ("k r h", "-Head:r:h Miss:k:r:1 Der:k:h"),
     "B6": ("k r x", "-Body:r:x Der:k:x Miss:k:r:1"),
@@ -48,11 +48,13 @@ AXIOMS = {
     "B11": ("k x i", "-Sup:k:x:i -HGap:x:i:END"),
     "B12": ("a c", "-Cf -Con:a:c -Member:a -Der:1:c"),
     "B13": ("a c", "-Ad -Con:a:c -Member:a -Der:2:c"),
-    "B14": ("a c", "-Co -Con:a:c Der:2:c Member:a"),
-    "B15": ("a c", "-St -Con:a:c Member:a Der:1:c"),
+    "B14": ("a", "-Co -Asm:a Hit:2:a:1 Member:a"),
+    "B15": ("a", "-St -Asm:a Member:a Hit:1:a:1"),
     "B16 1": ("", "-Ad Cf"),
     "B16 2": ("", "-Co Ad"),
     "B16 3": ("", "-St Co"),
+    "B18": ("k a i j", "-Hit:k:a:i -ConGap:a:i:j Der:k:j Hit:k:a:j+1"),
+    "B19": ("k a i", "-Hit:k:a:i -ConGap:a:i:END"),
 }
 SEVERAL_ROWS = ("A14", "B9", "B16")
 
@@ -190,7 +192,7 @@ class View:
         self.is_rules = framework.kind is Kind.RULES
         self.members: Sequence[int] = framework.members
         self.assumed = set(framework.assumptions)
-        self.contrary = {a: framework.contraries.get(a, 0) for a in framework.assumptions}
+        self.contraries = {a: framework.contraries.get(a, ()) for a in framework.assumptions}
         self.attackers: dict[int, list[int]] = {a: [] for a in framework.arguments}
         self.targets: dict[int, list[int]] = {a: [] for a in framework.arguments}
         for attacker, target in sorted(framework.attacks):
@@ -216,7 +218,7 @@ class View:
         """What a set of arguments attacks, or the assumptions that a set of assumptions attacks."""
         if self.is_rules:
             derived = self.closure(chosen)
-            return {a for a, c in self.contrary.items() if c in derived}
+            return {a for a, row in self.contraries.items() if not derived.isdisjoint(row)}
         return {target for one in chosen for target in self.targets[one]}
 
     def range_of(self, chosen: Iterable[int]) -> set[int]:
@@ -243,7 +245,10 @@ class View:
         return a in self.assumed
 
     def _is_con(self, a, c):
-        return self.contrary.get(a) == c
+        return c in self.contraries.get(a, ())
+
+    def _is_congap(self, a, i, j):
+        return a in self.assumed and not any(i <= c < j for c in self.contraries[a])
 
     def _is_head(self, r, h):
         return r in self.rules and self.rules[r][0] == h

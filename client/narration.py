@@ -42,16 +42,16 @@ class Sentence:
 
     @property
     def attacks(self) -> list[tuple[int, int]]:
-        """The pairs of the framework's picture that the sentence speaks of: attacks, or a rule's body and head, or a
-        contrary and its assumption."""
+        """The pairs of the framework's picture that the sentence speaks of: attacks, or a rule's body and head, or
+        contraries and their assumption."""
         pairs = []
         for fact in (fact for record in self.records for fact in record.facts):
             match fact:
                 case Fact("attacks", pair):
                     pairs.append(pair)
-                case Fact("attackers", (about, those)):
+                case Fact("attackers" | "contraries", (about, those)):
                     pairs += [(one, about) for one in those]
-                case Fact("contrary", (about, against)) if against:
+                case Fact("contrary", (about, against)):
                     pairs.append((against, about))
                 case Fact("rule", (_, head, body)):
                     pairs += [(one, head) for one in body]
@@ -113,10 +113,10 @@ def literal_words(view: View, literal: Literal) -> str:
     elif kind == "Der":
         own, assumed = numbers[0] == OWN, numbers[1] in view.assumed
         kind = ("Assumed" if assumed else "Der own") if own else ("Asm rest" if assumed else "Der rest")
-    elif kind in ("Miss", "Sup"):
+    elif kind in ("Miss", "Sup", "Hit"):
         fields = {"a": name(numbers[1]), "rule": f"rule {numbers[1]}", "i": str(numbers[2])}
         kind += "" if numbers[0] == OWN else " rest"
-        kind += " from" if numbers[2] > 1 and kind.startswith("Miss") else ""
+        kind += " from" if numbers[2] > 1 and not kind.startswith("Sup") else ""
     return LITERALS[kind][0 if literal.positive else 1].format(**fields)
 
 
@@ -160,16 +160,24 @@ class Wording:
             case Fact("attackers", (a, those)):
                 return f"only {names_of(those)} attacks {name(a)}" if those else f"nothing attacks {name(a)}"
             case Fact("some attackers", (a, spans, those)):
-                between = listed([f"{start} to {min(end - 1, self.view.framework.size)}" for start, end in spans])
-                return f"of {between}, {names_of(those) or 'nothing'} attacks {name(a)}"
+                return f"of {self._between(spans)}, {names_of(those) or 'nothing'} attacks {name(a)}"
             case Fact("contrary", (a, c)):
-                return f"{name(c)} speaks against {name(a)}" if c else f"nothing speaks against {name(a)}"
+                return f"{name(c)} speaks against {name(a)}"
+            case Fact("contraries", (a, those)):
+                who = f"only {names_of(those)}" if those else "nothing"
+                return f"{who} {'speak' if len(those) > 1 else 'speaks'} against {name(a)}"
+            case Fact("some contraries", (a, spans, those)):
+                return f"of {self._between(spans)}, {names_of(those) or 'nothing'} speaks against {name(a)}"
             case Fact("rule", (_, head, body)):
                 return f"{name(head)} follows from {names_of(body)}" if body else f"{name(head)} is known"
             case Fact("rules", (x, rules)):
                 return f"{name(x)} has {len(rules)} rules" if rules else f"no rule gives {name(x)}"
         x, _, rules = fact.values
         return f"{name(x)} has {len(rules)} of these rules"
+
+    def _between(self, spans: Iterable[tuple[int, int]]) -> str:
+        """Which numbers a part of a walk goes along."""
+        return listed([f"{start} to {min(end - 1, self.view.framework.size)}" for start, end in spans])
 
     # Attacks
 
@@ -222,15 +230,32 @@ class Wording:
         }
 
     def _against(self, record):
+        """The words of an axiom on one contrary."""
         a, c = next(fact.values for fact in record.facts if fact.name == "contrary")
         given = record.given
-        if record.group in ("B3", "B9 3") and record.conclusion is not None:
+        if record.group == "B9 3" and record.conclusion is not None:
             given += " own" if record.conclusion.atom[1] == OWN else " rest"
         if record.group == "B13" and given == "-Der":
             given += " asm" if c in self.view.assumed else " rest"
-        return f"{record.group} {given}" + ("" if c else " none"), {"a": name(a), **self.get("c", c)}
+        return f"{record.group} {given}", {"a": name(a), **self.get("c", c)}
 
-    _b3 = _b9_3 = _b12 = _b13 = _b14 = _b15 = _against
+    _b9_3 = _b12 = _b13 = _against
+
+    def _all_against(self, record):
+        """The words of an axiom on all contraries of an assumption."""
+        told = [fact.values for fact in record.facts if fact.name == "contraries"]
+        if not told:
+            return self._other(record)
+        a, those = told[0]
+        fields, given = {"a": name(a), "list": names_of(those)}, record.given
+        if record.group == "B3" and record.conclusion is not None:
+            given += " own" if record.conclusion.atom[1] == OWN else " rest"
+        if those:
+            one = record.conclusion.atom[2] if given in ("Der", "Der own") else those[0]
+            fields.update(self.get("c", one))
+        return f"{record.group} {given} {_how_many(those)}", fields
+
+    _b3 = _b14 = _b15 = _all_against
 
     def _closure(self, record) -> str:
         """Whose derivations a chain of rules is about: `own`, or `rest`."""

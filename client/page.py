@@ -79,7 +79,7 @@ def _edges(framework: Framework) -> list[tuple[int, int, str, str]]:
     """Start, end, kind and the pairs that a sentence may mark: rules of several premises meet at a joint, a negative
     number."""
     edges = [(b, a, "", f"{b}-{a}") for b, a in framework.attacks]
-    edges += [(c, a, "against", f"{c}-{a}") for a, c in framework.contraries.items()]
+    edges += [(c, a, "against", f"{c}-{a}") for a, c in framework.contrary_pairs]
     for rule in framework.rules:
         pairs = [f"{x}-{rule.head}" for x in rule.body]
         if len(rule.body) == 1:
@@ -279,7 +279,7 @@ def _relations(found: Reasons, view: View, n: int) -> str:
     names = lambda those: ", ".join(f"<bdi>{_text(found.framework.names.get(one, str(one)))}</bdi>" for one in those)
     if not view.is_rules:
         return names(view.targets[n])
-    against = [a for a, c in view.contrary.items() if c == n]
+    against = [a for a, row in view.contraries.items() if n in row]
     parts = [f"against {names(against)}"] if against else []
     for rule in view.rules_for[n]:
         body = view.rules[rule][1]

@@ -18,19 +18,21 @@ CHAINS = {
     "A9": "A8",
     **dict.fromkeys(("B6", "B7", "B8"), "B5"),
     **dict.fromkeys(("B9 1", "B9 2", "B10", "B11"), "B9"),
+    "B19": "B18",
 }
 # Definitions, of which nothing is said: freedom from conflict of numbers that are there, what assuming is, what modes
 # have.
 SILENT = ("A1", "A14 1", "A14 2", "A14 3", "B1", "B2", "B4", "B16 1", "B16 2", "B16 3")
 # Where a record's steps are of several groups, the first of these in it names it.
-RANKS = ("lemma", "side", "B17", "B9", "B5")
+RANKS = ("lemma", "side", "B17", "B9", "B5", "B3", "B14", "B15")
 
 
 class Fact(NamedTuple):
     """What a sentence says of the framework: `attacks` with attacker and target; `attackers` with an argument and all
     of its attackers; `some attackers` with an argument, the numbers from and to which it looks, and its attackers
-    there; `contrary` with an assumption and its contrary; `rule` with number, head and body; `rules` with a statement
-    and the numbers of all of its rules; `some rules` as with attackers."""
+    there; `contrary` with an assumption and a contrary of it; `contraries` with an assumption and all of its
+    contraries; `rule` with number, head and body; `rules` with a statement and the numbers of all of its rules;
+    `some contraries` and `some rules` as with attackers."""
 
     name: str
     values: tuple
@@ -287,7 +289,7 @@ def _links(reasons: dict[Literal, _Reason], shown: set[Literal]) -> dict[Literal
 def is_inner(literal: Literal) -> bool:
     """Whether a literal is an inner link of a chain, or a mode."""
     name, *numbers = literal.atom
-    return name in ("Miss", "Sup", *MODES) or (name in ("Tail", "Unmet") and numbers[1] > 1)
+    return name in ("Miss", "Sup", "Hit", *MODES) or (name in ("Tail", "Unmet") and numbers[1] > 1)
 
 
 def _group_of(steps: Sequence[Step]) -> str:
@@ -308,6 +310,15 @@ def _group_of(steps: Sequence[Step]) -> str:
 # Facts
 
 
+# The fact that each walk along numbers gives, and the axioms of the walk.
+WALKS = (
+    ("attackers", ("A5", "A6")),
+    ("attackers", ("A8", "A9")),
+    ("contraries", ("B18", "B19")),
+    ("rules", ("B10", "B11")),
+)
+
+
 def facts_of(view: View, steps: Sequence[Step]) -> tuple[Fact, ...]:
     """What steps rest on in the framework, in the order in which they speak of it."""
     axioms = [step for step in steps if isinstance(step, Axiom)]
@@ -315,7 +326,7 @@ def facts_of(view: View, steps: Sequence[Step]) -> tuple[Fact, ...]:
     for axiom in axioms:
         for fact in _facts_of_axiom(view, axiom):
             facts[fact] = None
-    for name, chain in (("attackers", ("A5", "A6")), ("attackers", ("A8", "A9")), ("rules", ("B10", "B11"))):
+    for name, chain in WALKS:
         for fact in _walked(name, [axiom for axiom in axioms if axiom.name in chain]):
             facts[fact] = None
     for axiom in axioms:
@@ -329,7 +340,7 @@ def _facts_of_axiom(view: View, axiom: Axiom) -> Iterator[Fact]:
     match axiom.name:
         case "A2" | "A3" | "A4":
             yield Fact("attacks", numbers)
-        case "B3" | "B12" | "B13" | "B14" | "B15":
+        case "B12" | "B13":
             yield Fact("contrary", numbers)
         case "B9" if numbers[0] == 3:
             yield Fact("contrary", numbers[1:])
@@ -343,7 +354,7 @@ def _rule(view: View, number: int) -> Fact:
 
 def _walked(name: str, axioms: Sequence[Axiom]) -> Iterator[Fact]:
     """What chains have walked along, one fact for each argument or statement."""
-    first = 1 if name == "rules" else 0
+    first = 0 if name == "attackers" else 1
     for about in dict.fromkeys(axiom.numbers[first] for axiom in axioms):
         mine = sorted(axiom.numbers[first + 1 :] for axiom in axioms if axiom.numbers[first] == about)
         met = tuple(one[1] for one in mine if len(one) == 2)

@@ -94,20 +94,38 @@ def _chain(names, numbers, walked, first, others) -> Link:
 
 def rule_links(view: View, loops: Iterable[Axiom]) -> list[Link]:
     """The links of a framework of assumptions and rules, with the loop clauses that a certificate has."""
-    axioms = [Axiom("B16", (k,)) for k in (1, 2, 3)] + [Axiom("B4", (k,)) for k in (OWN, REST)] + list(loops)
-    for a, c in view.contrary.items():
-        axioms += [Axiom("B2", (a,)), Axiom("B9", (3, a, c))]
-        axioms += [Axiom(name, (a, c)) for name in ("B3", "B12", "B13", "B14", "B15")]
-    axioms += [Axiom("B1", (x,)) for x in view.framework.atoms if x not in view.assumed]
+    links = [_link(view, axiom) for axiom in (*(Axiom("B16", (k,)) for k in (1, 2, 3)), *loops)]
+    for a in view.members:
+        links += _assumption_links(view, a)
+    axioms = [Axiom("B1", (x,)) for x in view.framework.atoms if x not in view.assumed]
     for r, (head, body) in view.rules.items():
         for k in (OWN, REST):
             axioms += [Axiom("B5", (k, r, head)), *(Axiom("B6", (k, r, x)) for x in body)]
-    links = [_link(view, axiom) for axiom in axioms]
+    links += [_link(view, axiom) for axiom in axioms]
     for k in (OWN, REST):
         for r, (_, body) in view.rules.items():
             links.append(_chain(("B7", "B8"), (k, r), body, [no("Miss", k, r, 1)], [no("Der", k, x) for x in body]))
         links += [_giving(view, k, x) for x in view.framework.atoms if k == OWN or x not in view.assumed]
     return [link for link in links if link is not None]
+
+
+def _assumption_links(view: View, a: int) -> list[Optional[Link]]:
+    """The links of an assumption and its contraries."""
+    contraries = view.contraries[a]
+    links = [_link(view, axiom) for axiom in (Axiom("B2", (a,)), *(Axiom("B9", (3, a, c)) for c in contraries))]
+    links.append(_hitting(view, "B3", OWN, a))
+    links += [_link(view, Axiom(name, (a, c))) for name in ("B12", "B13") for c in contraries]
+    return [*links, _hitting(view, "B14", REST, a), _hitting(view, "B15", OWN, a)]
+
+
+def _hitting(view: View, name: str, k: int, a: int) -> Link:
+    """An axiom that speaks of all contraries of an assumption: some of them is in a closure, or its other literals
+    say what is so."""
+    axiom = Axiom(name, (a,))
+    others = [literal for literal in clause_of(axiom) if literal.atom[0] not in ("Asm", "Hit")]
+    contraries = view.contraries[a]
+    chain = _chain(("B18", "B19"), (k, a), contraries, others, [yes("Der", k, c) for c in contraries])
+    return Link(tuple(dict.fromkeys(chain.clause)), (axiom, *chain.steps))
 
 
 def _giving(view: View, k: int, x: int) -> Link:

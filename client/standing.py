@@ -25,6 +25,7 @@ STANDINGS = {
     "unopposed": "{a} stands: nothing speaks against it",
     "underivable": "{a} stands: only {c} speaks against it, and no rule gives {c}",
     "shut": "{a} stands: only {c} speaks against it, which {why}",
+    "all shut": "{a} stands: only {against} speak against it{each_why}",
     "attacked": "{a} falls: {c} speaks against it, and {holds}",
     "possible": "{a} stays open: {c} speaks against it, and the set doesn't shut {c} out",
     "lacking": "{x} is shut out: it {why}",
@@ -207,23 +208,24 @@ def _of_assumptions(view: View, members: Numbers, opens: bool) -> list[Standing]
     shut, said = _Shut(view, members), set()
     for a in members:
         out += _why_assumed(view, shut, a, members, said)
-    for a in sorted(shut.attacked):
-        contrary = Fact("contrary", (a, view.contrary[a]))
-        out.append(Standing("attacked", (a,), (view.contrary[a],), (contrary,), members))
+    derived = view.closure(members)
+    out += [_against(view, "attacked", a, derived, members) for a in sorted(shut.attacked)]
     if opens:
         left = [a for a in sorted(view.assumed) if a not in members and a not in shut.attacked]
-        for a in left:
-            c = view.contrary[a]
-            out.append(Standing("possible", (a,), (c,), (Fact("contrary", (a, c)),), members))
+        out += [_against(view, "possible", a, shut.open, members) for a in left]
     return out
 
 
+def _against(view: View, kind: str, a: int, have: set[int], members: Numbers) -> Standing:
+    """That a contrary of an assumption is among the statements that one has."""
+    c = next(c for c in view.contraries[a] if c in have)
+    return Standing(kind, (a,), (c,), (Fact("contrary", (a, c)),), members)
+
+
 def _why_assumed(view: View, shut: _Shut, a: int, members: Numbers, said: set[int]) -> list[Standing]:
-    c = view.contrary[a]
-    if c == 0:
-        return [Standing("unopposed", (a,), (), (Fact("contrary", (a, 0)),), members)]
+    contraries = view.contraries[a]
     out = []
-    for x in shut.behind(c):
+    for x in (x for c in contraries for x in shut.behind(c)):
         if x in said:
             continue
         about = tuple(shut.circle) if x in shut.circle else (x,)
@@ -231,9 +233,17 @@ def _why_assumed(view: View, shut: _Shut, a: int, members: Numbers, said: set[in
         kind = "circle" if x in shut.circle else "lacking"
         facts = tuple(fact for one in about for fact in _rules(view, one))
         out.append(Standing(kind, about, tuple(dict.fromkeys(_lacks_of(shut, about))), facts, members))
-    facts = (Fact("contrary", (a, c)), *(() if c in shut.attacked else _rules(view, c)))
-    kind = "shut" if c in shut.attacked or view.rules_for[c] else "underivable"
-    return out + [Standing(kind, (a,), (c, *_lacks_of(shut, (c,))), facts, members)]
+    given = [c for c in contraries if c not in shut.attacked]
+    facts = (Fact("contraries", (a, contraries)), *(fact for c in given for fact in _rules(view, c)))
+    by = tuple(dict.fromkeys((*contraries, *_lacks_of(shut, contraries))))
+    return out + [Standing(_kind_of(view, shut, contraries), (a,), by, facts, members)]
+
+
+def _kind_of(view: View, shut: _Shut, contraries: Numbers) -> str:
+    """The kind of standing of an assumption with these contraries, none of which opponents can derive."""
+    if len(contraries) != 1:
+        return "all shut" if contraries else "unopposed"
+    return "shut" if contraries[0] in shut.attacked or view.rules_for[contraries[0]] else "underivable"
 
 
 def _lacks_of(shut: _Shut, about: Iterable[int]) -> list[int]:
@@ -294,7 +304,7 @@ class StandingTeller:
 REPEATED = {
     "{list} follow{s}": ("known", "derived"),
     "{list} {are} shut out": ("lacking", "circle"),
-    "{list} stand{s}": ("unattacked", "answered", "unopposed", "underivable", "shut"),
+    "{list} stand{s}": ("unattacked", "answered", "unopposed", "underivable", "shut", "all shut"),
     "{list} {are} held": ("held",),
     "{list} fall{s}": ("falls", "attacked"),
     "{list} stay{s} open": ("open", "possible"),
@@ -323,6 +333,9 @@ def _fields(view: View, one: Standing, shut: Optional[_Shut]) -> dict[str, str]:
         fields["body"] = names_of(one.by)
     if one.kind == "attacked":
         fields["holds"] = "it is assumed" if one.by[0] in one.members else "that follows"
+    if one.kind == "all shut":
+        fields["against"] = names_of(view.contraries[first])
+        fields["each_why"] = _each_why(shut, view.contraries[first])
     if one.kind in ("shut", "lacking"):
         fields["why"] = shut.why(one.by[0] if one.kind == "shut" else first)
     if one.kind == "circle":
@@ -330,6 +343,15 @@ def _fields(view: View, one: Standing, shut: Optional[_Shut]) -> dict[str, str]:
         lacks = names_of(one.by)
         fields["ways"] = f", or from {lacks}, which {'is' if len(one.by) == 1 else 'are'} out" if lacks else ""
     return fields
+
+
+def _each_why(shut: _Shut, contraries: Numbers) -> str:
+    """Why several contraries are out of reach, those that fall first."""
+    fallen = [c for c in contraries if c in shut.attacked]
+    if len(fallen) == len(contraries):
+        return f", and {'both' if len(fallen) == 2 else 'all of them'} fall"
+    parts = [f"{names_of(fallen)} {'falls' if len(fallen) == 1 else 'fall'}"] if fallen else []
+    return "; ".join(["", *parts, *(f"{name(c)} {shut.why(c)}" for c in contraries if c not in fallen)])
 
 
 def _answers(one: Standing) -> str:

@@ -64,9 +64,25 @@ class ReadingTest(unittest.TestCase):
         read = Framework.from_file(EXAMPLES / "anticoagulant.aba")
         self.assertEqual((read.kind, read.size), (Kind.RULES, 14))
         self.assertEqual(read.assumptions, (1, 2, 3, 4))
-        self.assertEqual(read.contraries, {1: 8, 2: 9, 3: 10, 4: 11})
+        self.assertEqual(read.contraries, {1: (8,), 2: (9,), 3: (10,), 4: (11,)})
         self.assertEqual(read.rules[4:6], (Rule(5, 6, (3, 7)), Rule(6, 8, (6,))))
         self.assertEqual((list(read.arguments), len(read.atoms), read.members), ([], 14, (1, 2, 3, 4)))
+
+    def test_several_contraries(self):
+        read = Framework.from_text("p aba 4\nc 2 4\na 2\nc 1 4\na 1\nc 1 3\nc 1 2\nc 1 3\na 3\n")
+        self.assertEqual(read.contraries, {1: (2, 3, 4), 2: (4,)})
+        self.assertEqual(read.contrary_pairs, ((1, 2), (1, 3), (1, 4), (2, 4)))
+        self.assertEqual(read.text(), "p aba 4\na 1\na 2\na 3\nc 1 2\nc 1 3\nc 1 4\nc 2 4\n")
+
+    def test_too_many_contrary_lines(self):
+        """A line that repeats another counts too, and a line's own fault is told before."""
+        lines = "p aba 2\na 1\n" + 2 * "c 1 2\n"
+        with mock.patch.object(burgaouez, "MOST_CONTRARY_LINES", 2):
+            self.assertEqual(Framework.from_text(lines).contraries, {1: (2,)})
+            for line, name in (("c 1 2", "TooManyLines"), ("c 2 1", "TooManyLines"), ("c 1 3", "OutOfRange")):
+                with self.subTest(line), self.assertRaises(burgaouez.FrameworkFault) as caught:
+                    Framework.from_text(lines + line)
+                self.assertEqual((caught.exception.line, caught.exception.name), (5, name))
 
     def test_examples_have_their_sentences(self):
         hearing = Framework.from_file(EXAMPLES / "hearing.af")
@@ -101,8 +117,11 @@ class ReadingTest(unittest.TestCase):
             ("p aba 2\nx 1", 2, "BadLine"),
             ("p aba 2\na 1\nr 1", 3, "NotFlat"),
             ("p aba 2\nr 1\na 1", 3, "NotFlat"),
-            ("p aba 3\na 1\nc 1 2\nc 1 3", 4, "SecondContrary"),
+            ("p aba 3\na 1\nc 1 0", 3, "OutOfRange"),
+            ("p aba 3\na 1\nc 1 2 3", 3, "BadLine"),
+            ("p aba 3\na 1\nc 1 2\nc 1 3\nr 1", 5, "NotFlat"),
             ("p aba 3\nc 1 2\nc 3 2\na 2", 2, "ContraryOfNonAssumption"),
+            ("p aba 3\na 1\nc 1 2\nc 3 2\nc 1 3\nc 2 2", 4, "ContraryOfNonAssumption"),
         ):
             with self.subTest(text), self.assertRaises(burgaouez.FrameworkFault) as caught:
                 Framework.from_text(text)
@@ -145,10 +164,36 @@ class MakingTest(unittest.TestCase):
             ("BadName", lambda: Framework.of_attacks([], size=1, names={1: "two words"})),
             ("NotFlat", lambda: Framework.of_rules([1], {}, [(1, [])])),
             ("ContraryOfNonAssumption", lambda: Framework.of_rules([1], {2: 1}, [])),
+            ("OutOfRange", lambda: Framework.of_rules([1], {1: [2, 5]}, [], size=4)),
+            ("OutOfRange", lambda: Framework.of_rules([1], {1: [0, 2]}, [])),
         ):
             with self.subTest(name), self.assertRaises(burgaouez.InvalidFramework) as caught:
                 make()
             self.assertEqual(caught.exception.name, name)
+
+    def test_numbers_of_contraries(self):
+        made = Framework.of_rules([1, 2, 3, 4], {3: {5, 4}, 1: 6, 2: [], 4: (7, 5, 7)}, [])
+        self.assertEqual((made.contraries, made.size), ({1: (6,), 3: (4, 5), 4: (5, 7)}, 7))
+
+    def test_edits_of_contraries(self):
+        now = Framework.of_rules([1, 2], {1: 3}, [], size=4)
+        for edit, then in (
+            (burgaouez.AddContrary(1, 2), {1: (2, 3)}),
+            (burgaouez.AddContrary(2, 4), {1: (2, 3), 2: (4,)}),
+            (burgaouez.DropContrary(1, 3), {1: (2,), 2: (4,)}),
+            (burgaouez.DropContrary(1, 2), {2: (4,)}),
+            (burgaouez.AddContrary(2, 1), {2: (1, 4)}),
+            (burgaouez.SetContrary(2, 3), {2: (3,)}),
+            (burgaouez.AddContrary(2, 2), {2: (2, 3)}),
+            (burgaouez.DropAssumption(2), {}),
+            (burgaouez.AddAssumption(2, 0), {}),
+            (burgaouez.AddContrary(2, 1), {2: (1,)}),
+            (burgaouez.SetContrary(2, 0), {}),
+        ):
+            now = now.edited(edit)
+            self.assertEqual(now.contraries, then, edit)
+        with self.assertRaises(burgaouez.InvalidFramework):
+            now.edited(burgaouez.AddContrary(2, 0))
 
     def test_texts_with_line_ends_stay_comments(self):
         told = Framework.of_attacks([(1, 2)], texts={1: "one\n2 1\n", 2: "<b>two</b>"}, names={2: "zwölf-2"})
@@ -438,11 +483,12 @@ class ScriptTest(unittest.TestCase):
         )
 
     def test_certificates_of_replies_are_accepted(self):
-        edits = [burgaouez.AddRule(3, (1,)), burgaouez.DropAssumption(2), burgaouez.SetContrary(1, 0)]
+        edits = [burgaouez.AddContrary(1, 2), burgaouez.AddRule(3, (1,)), burgaouez.DropContrary(1, 3)]
+        edits += [burgaouez.DropAssumption(2), burgaouez.SetContrary(1, 0)]
         asks = [burgaouez.Ask("DS-PR", 4), burgaouez.Ask("EE-CO")]
         script = Script.of_commands([command for edit in edits for command in (edit, *asks)])
         transcript = script.run(DRUG)
-        self.assertEqual(len(transcript.history), 3)
+        self.assertEqual(len(transcript.history), 5)
         for reply in transcript.replies:
             if isinstance(reply.command, burgaouez.Ask):
                 then = transcript.framework_at(DRUG, reply.at)
@@ -474,6 +520,8 @@ class ScriptTest(unittest.TestCase):
             ("att 1 2", refused("AttackIsThere")),
             ("noatt 1 3", refused("NoSuchAttack")),
             ("rule 1", refused("WrongKind")),
+            ("addcon 0 9", refused("WrongKind")),
+            ("delcon 1 2", refused("WrongKind")),
             ("ask DC-PR 9", refused("UnknownArgument", 9)),
         ):
             reply = Script.from_text("1 " + line).run(RIVALS).replies[0]
@@ -482,6 +530,14 @@ class ScriptTest(unittest.TestCase):
             ("asm 1 0", refused("AssumptionIsThere")),
             ("asm 3 0", refused("NotFlat", 3)),
             ("noasm 3", refused("UnknownAssumption", 3)),
+            ("addcon 1 0", refused("OutOfRange", 0)),
+            ("addcon 3 5", refused("OutOfRange", 5)),
+            ("addcon 3 1", refused("UnknownAssumption", 3)),
+            ("addcon 1 3", refused("ContraryIsThere")),
+            ("delcon 5 0", refused("OutOfRange", 5)),
+            ("delcon 1 0", refused("OutOfRange", 0)),
+            ("delcon 3 1", refused("UnknownAssumption", 3)),
+            ("delcon 1 4", refused("NoSuchContrary")),
             ("norule 5", refused("NoSuchRule", 5)),
             ("ask DC-ID 1", refused("TaskNotForKind")),
         ):
@@ -507,6 +563,9 @@ class ScriptTest(unittest.TestCase):
             ("1", 1, "BadCommand"),
             ("1 arg 1 2", 1, "BadCommand"),
             ("1 rule", 1, "BadCommand"),
+            ("1 addcon 1", 1, "BadCommand"),
+            ("1 delcon 1 2 3", 1, "BadCommand"),
+            ("1 addcon 1 x", 1, "BadNumber"),
             ("1 ask EE-GR", 1, "BadTask"),
             ("1 ask DS-PR x", 1, "BadNumber"),
             ("1 att 1 x", 1, "BadNumber"),
@@ -519,10 +578,19 @@ class ScriptTest(unittest.TestCase):
 
     def test_text_reads_as_the_script(self):
         text = (
-            "1 arg 4\n1 noarg 4\n2 att 1 2\n2 noatt 1 2\n3 asm 1 0\n3 noasm 1\n4 con 1 2\n"
+            "1 arg 4\n1 noarg 4\n2 att 1 2\n2 noatt 1 2\n3 asm 1 0\n3 noasm 1\n4 con 1 2\n4 addcon 1 3\n4 delcon 1 2\n"
             "5 rule 3 1 2\n5 rule 3\n6 norule 7\n8 ask SE-GR\n8 ask DC-PR 1\n"
         )
         self.assertEqual(Script.from_text(text).text(), text)
+
+    def test_contraries_that_come_and_go(self):
+        """Then 2 speaks against 1 by itself, and 1 against 2 by what follows from it; at last nothing against 1."""
+        script = Script.from_text("1 addcon 1 2\n1 delcon 1 3\n1 ask EE-PR\n1 con 1 0\n1 ask SE-GR\n")
+        transcript = script.run(DRUG, certify=False)
+        self.assertEqual([reply.outcome for reply in transcript.replies[2::2]], [Sets(((1,), (2,))), Sets(((1,),))])
+        self.assertEqual(transcript.framework_at(DRUG, 1).contraries, {1: (2, 3), 2: (4,)})
+        self.assertEqual(transcript.framework_at(DRUG, 2).contraries, {1: (2,), 2: (4,)})
+        self.assertEqual(transcript.framework_at(DRUG, 3).contraries, {2: (4,)})
 
     def test_rules_keep_their_numbers(self):
         transcript = Script.from_text("1 norule 2\n1 rule 3 1\n1 norule 1\n").run(DRUG)

@@ -77,9 +77,16 @@ class ReadingTest(unittest.TestCase):
     def test_rules(self):
         framework = Case.from_text(DRUG).framework
         self.assertEqual(list(framework.names.values()), ["given", "record", "allergy", "unsafe", "interaction"])
-        self.assertEqual((framework.assumptions, framework.contraries), ((1, 2), {1: 4}))
+        self.assertEqual((framework.assumptions, framework.contraries), ((1, 2), {1: (4,)}))
         self.assertEqual(framework.rules, ((1, 3, ()), (2, 5, (2, 3)), (3, 4, (5,))))
         self.assertEqual(framework.texts, {1: "The drug is given.", 3: "There is an allergy."})
+
+    def test_several_are_against_one(self):
+        case = Case.from_text("assume a: A.\nc against a\nb against a\nc against a\nassume b\na against b\n")
+        self.assertEqual(case.framework.contraries, {1: (2, 3), 3: (1,)})
+        self.assertEqual(case.sentences()[0], "“A” may be assumed; each of c and b speaks against it.")
+        self.assertEqual(Case.from_text(case.text()).framework, case.framework)
+        self.assertEqual(case.text().splitlines()[-3:], ["c against a", "b against a", "a against b"])
 
     def test_numbers_follow_the_first_mention(self):
         case = Case.from_text("b against a\nassume a\n")
@@ -127,7 +134,7 @@ class ReadingTest(unittest.TestCase):
             ("assume a\na if b", 2, "AssumedHead"),
             ("known a\nassume a", 2, "AssumedHead"),
             ("b against a\nassume c", 1, "NotAssumed"),
-            ("assume a\nb against a\nc against a", 3, "SecondContrary"),
+            ("assume a\nb against a\nc against a\nc against b", 4, "NotAssumed"),
         ):
             with self.subTest(text), self.assertRaises(CaseError) as caught:
                 Case.from_text(text)
@@ -155,6 +162,9 @@ class ReadingTest(unittest.TestCase):
         with mock.patch.object(burgaouez, "LARGEST_NUMBER", 5), self.assertRaises(CaseError) as caught:
             Case.from_text("".join(f"a{number}:\n" for number in range(7)))
         self.assertEqual((caught.exception.line, caught.exception.name.value), (6, "TooMany"))
+        with mock.patch.object(burgaouez, "MOST_CONTRARY_LINES", 1), self.assertRaises(CaseError) as caught:
+            Case.from_text("assume a\nb against a\nc against a\n")
+        self.assertEqual((caught.exception.line, caught.exception.name.value), (3, "TooMany"))
 
 
 class RoundTripTest(unittest.TestCase):
@@ -205,7 +215,7 @@ class RoundTripTest(unittest.TestCase):
         self.assertEqual(twice.framework.names, {1: "x", 2: "a2", 3: "a3"})
 
     def test_examples_are_the_files_with_numbers(self):
-        for name in ("hearing.af", "inheritance.af", "anticoagulant.aba"):
+        for name in ("hearing.af", "inheritance.af", "anticoagulant.aba", "photograph.aba"):
             with self.subTest(name):
                 case = Case.from_file(EXAMPLES / Path(name).with_suffix(".case"))
                 framework = Framework.from_file(EXAMPLES / name)
@@ -280,6 +290,22 @@ class LiveTest(unittest.TestCase):
             ],
         )
 
+    def test_contraries_by_name(self):
+        """That there is an allergy is known, so that it speaks against giving the drug is enough."""
+        case = Case.from_text("assume given\nknown allergy\nwish: W.\nwish against given\n")
+        script = case.script("1 addcon given allergy\n1 delcon given wish\n1 ask SE-GR\n1 delcon given wish\n")
+        self.assertEqual(script.text().splitlines()[:2], ["1 addcon 1 2", "1 delcon 1 3"])
+        transcript = script.run(case.framework, certify=False)
+        self.assertEqual(
+            [case.told_reply(reply, transcript) for reply in transcript.replies],
+            [
+                ("session 1, at 1: addcon given allergy", "OK"),
+                ("session 1, at 2: delcon given wish", "OK"),
+                ("session 1, at 2: ask SE-GR", "the empty set, and so allergy"),
+                ("session 1, at 2: delcon given wish", "REFUSED NoSuchContrary"),
+            ],
+        )
+
     def test_dropped_arguments(self):
         case = Case.from_text(WITNESS)
         transcript = case.script("1 noarg sighting\n1 ask SE-GR").run(case.framework)
@@ -310,6 +336,13 @@ class LintTest(unittest.TestCase):
             [("Decision", "given"), ("KnownAgainst", "untreated"), ("Decision", "untreated")],
         )
 
+    def test_what_always_stands(self):
+        """x has two contraries and z none: perhaps one of the two was meant to be against z."""
+        text = "assume x: X.\nassume z: Z.\nk: K.\nl: L.\nk against x\nl against x\nk if z\nl if z, x\n"
+        warnings = case_lint.warnings_of(Case.from_text(text))
+        remarks = [(warning.name, warning.about) for warning in warnings if warning.is_remark]
+        self.assertEqual(remarks, [("Unopposed", "z")])
+
     def test_attacks(self):
         text = "a: A.\nb: B.\nc: C.\nd: c.\na attacks b\nb attacks b, d\na attacks b\n"
         self.assertEqual(
@@ -324,6 +357,8 @@ class LintTest(unittest.TestCase):
             ("a: A.\nk if a", ("DeadRule", "k")),
             ("a: A.\na against z", ("UnderivableContrary", "a")),
             ("z against z", ("OwnContrary", "z")),
+            ("k against x", ("AgainstTwice", "k")),
+            ("a: A.\na against x", ("UnderivableContrary", "a")),
             ("a: A.", ("NeverUsed", "a")),
             ("k if x", ("SelfDefeat", "x")),
             ("a: A.\na if x", ("ConcludedUnused", "a")),
@@ -334,6 +369,15 @@ class LintTest(unittest.TestCase):
         ):
             with self.subTest(line):
                 self.assertIn(warning, self.told(given + line + "\n"))
+
+    def test_one_of_several_that_nothing_leads_to(self):
+        """x doesn't always stand: k, which is against it too, follows from z."""
+        text = "assume x: X.\nassume z: Z.\nk: K.\na: A.\nk against x\na against x\nk if z\na against z\n"
+        said = [warning.says for warning in case_lint.warnings_of(Case.from_text(text)) if not warning.is_remark]
+        self.assertEqual(said, [
+            "nothing leads to a, which is against x, so that changes nothing",
+            "nothing leads to a, which is against z, so z always stands",
+        ])
 
     def test_two_rules_for_one_statement(self):
         self.assertEqual(self.told("assume x: X.\nassume z: Z.\nk: K.\nk against x\nk if z\nk if z, x\n"), [])

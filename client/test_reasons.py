@@ -25,8 +25,8 @@ import certificate
 import page
 import records
 import words
-from burgaouez import Accepted, ArgueError, Framework, No, Sets, Yes, check, solve
-from certificate import AXIOMS, Literal, View, literal_of, read_certificate
+from burgaouez import Accepted, ArgueError, Framework, Kind, No, Sets, Yes, check, solve
+from certificate import AXIOMS, Axiom, Literal, View, clause_of, literal_of, read_certificate
 from narration import Narrator, Wording, literal_words, plain
 from reasons import NotAccepted, cited, main, reasons
 from records import Case, Fact, Record, read_refutation, walk
@@ -51,12 +51,15 @@ class Plain:
         numbers = [tuple(map(int, row)) for row in rows[1:]] if not self.is_rules else []
         self.attacks = set(numbers)
         self.assumed = {int(row[1]) for row in rows[1:] if row[0] == "a"}
-        self.against = {int(row[1]): int(row[2]) for row in rows[1:] if row[0] == "c"}
+        self.pairs = {(int(row[1]), int(row[2])) for row in rows[1:] if row[0] == "c"}
         self.rules = [(int(row[1]), frozenset(map(int, row[2:]))) for row in rows[1:] if row[0] == "r"]
         self.members = sorted(self.assumed) if self.is_rules else list(range(1, self.size + 1))
 
     def attackers(self, a):
         return {b for b, target in self.attacks if target == a}
+
+    def against(self, a):
+        return {c for one, c in self.pairs if one == a}
 
     def closure(self, given):
         closed = set(given)
@@ -69,7 +72,7 @@ class Plain:
     def attacked(self, chosen):
         if self.is_rules:
             derived = self.closure(chosen)
-            return {a for a in self.assumed if self.against.get(a) in derived}
+            return {a for a in self.assumed if self.against(a) & derived}
         return {a for b, a in self.attacks if b in chosen}
 
     def spread(self, chosen):
@@ -91,7 +94,7 @@ class World:
 
     def defends(self, a):
         if self.plain.is_rules:
-            return self.plain.against.get(a) not in self.derived[2]
+            return not self.plain.against(a) & self.derived[2]
         return self.plain.attackers(a) <= self.attacked
 
     def holds(self, atom):
@@ -108,6 +111,8 @@ class World:
             return any(b >= n[1] and b not in self.attacked for b in self.plain.attackers(n[0]))
         if name == "Der":
             return n[1] in self.derived[n[0]]
+        if name == "Hit":
+            return any(c >= n[2] and c in self.derived[n[0]] for c in self.plain.against(n[1]))
         rules = list(enumerate(self.plain.rules, 1))
         if name == "Miss":
             bodies = [body for r, (_, body) in rules if r == n[1]]
@@ -161,7 +166,11 @@ def fact_is_so(plain, fact):
         case Fact("some attackers", (a, spans, those)):
             return set(those) == {b for b in plain.attackers(a) if any(i <= b < j for i, j in spans)}
         case Fact("contrary", (a, c)):
-            return a in plain.assumed and plain.against.get(a, 0) == c
+            return (a, c) in plain.pairs
+        case Fact("contraries", (a, those)):
+            return a in plain.assumed and list(those) == sorted(plain.against(a))
+        case Fact("some contraries", (a, spans, those)):
+            return set(those) == {c for c in plain.against(a) if any(i <= c < j for i, j in spans)}
         case Fact("rule", (r, head, body)):
             return r <= len(plain.rules) and plain.rules[r - 1] == (head, frozenset(body))
         case Fact("rules", (x, rules)):
@@ -207,11 +216,14 @@ def allowed_clashes(plain, record, side):
 
 def allowed_by_rules(plain, record):
     group = record.group
-    if only(record, "contrary") and group not in ("B5", "B9", "B17"):
+    if group in ("B9 3", "B12", "B13"):
         (a, c), = only(record, "contrary")
-        parts = {"B3": "-Der:1:{1} -Der:2:{0}", "B9 3": "Der:2:{0} Der:1:{1}", "B12": "Member:{0} Der:1:{1}",
-                 "B13": "Member:{0} Der:2:{1}", "B14": "-Der:2:{1} -Member:{0}", "B15": "-Member:{0} -Der:1:{1}"}[group]
-        return [literals(*(text for text in parts.format(a, c).split() if not text.endswith(":0")))]
+        parts = {"B9 3": "Der:2:{0} Der:1:{1}", "B12": "Member:{0} Der:1:{1}", "B13": "Member:{0} Der:2:{1}"}[group]
+        return [literals(*parts.format(a, c).split())]
+    if group in ("B3", "B14", "B15"):
+        (a, those), = only(record, "contraries")
+        part, k = {"B3": ("-Der:2:{}", 1), "B14": ("-Member:{}", 2), "B15": ("-Member:{}", 1)}[group]
+        return [literals(part.format(a), *(f"-Der:{k}:{c}" for c in those))]
     rules = only(record, "rule")
     if group == "B5":
         (_, head, body), = rules
@@ -308,12 +320,12 @@ def stands_so(plain, one):
         return set(one.about) | set(one.by) <= derived
     if one.kind in ("lacking", "circle"):
         return not reach & (set(one.about) | set(one.by))
-    against = plain.against.get(one.about[0])
+    against = plain.against(one.about[0])
     if one.kind == "attacked":
-        return against in derived
+        return set(one.by) <= against & derived != set()
     if one.kind == "possible":
-        return against in reach and one.about[0] not in attacked
-    return one.about[0] in members and against not in reach and not reach & set(one.by)
+        return set(one.by) <= against & reach != set() and one.about[0] not in attacked
+    return one.about[0] in members and not against & reach and against <= set(one.by) and not reach & set(one.by)
 
 
 def scope_faults(refutation, ground):
@@ -355,7 +367,7 @@ def random_framework(rng):
     m = rng.randint(1, min(5, n - 1))
     heads = [rng.randint(m + 1, n) for _ in range(rng.randint(1, 7))]
     rules = [(head, [rng.randint(1, n) for _ in range(rng.randint(0, 2))]) for head in heads]
-    contraries = {a: rng.randint(1, n) for a in range(1, m + 1) if rng.random() < 0.9}
+    contraries = {a: rng.choices(range(1, n + 1), k=rng.choice((0, 1, 1, 1, 2, 2, 3))) for a in range(1, m + 1)}
     return Framework.of_rules(range(1, m + 1), contraries, rules, size=n)
 
 
@@ -606,8 +618,10 @@ def planted_in(record, sides, plain):
         if fact.name == "attacks" and fact.values[0] != fact.values[1]:
             yield "turned round", exchanged(fact.values[::-1]) if fact.values[::-1] not in plain.attacks else altered(
                 record, facts=(Fact("attacks", (99, 98)),))
-        if fact.name in ("attackers", "rules") and fact.values[1]:
+        if fact.name in ("attackers", "contraries", "rules") and fact.values[1]:
             yield "left out", exchanged((fact.values[0], fact.values[1][:-1]))
+        if fact.name == "contraries":
+            yield "one too many", exchanged((fact.values[0], (*fact.values[1], plain.size + 1)))
         if fact.name == "contrary":
             yield "another contrary", exchanged((fact.values[0], fact.values[1] + 1))
         if fact.name == "rule" and fact.values[2]:
@@ -635,25 +649,74 @@ def altered(record, **changes):
     return wrong
 
 
+def needed_of_contraries(framework):
+    """The axioms on assumptions and contraries that a framework needs."""
+    for a in framework.assumptions:
+        those = framework.contraries.get(a, ())
+        yield from (Axiom(name, (a,)) for name in ("B2", "B3", "B14", "B15"))
+        for c in those:
+            yield from (Axiom("B9", (3, a, c)), Axiom("B12", (a, c)), Axiom("B13", (a, c)))
+        starts = [1, *(c + 1 for c in those)]
+        for k in (1, 2):
+            yield from (Axiom("B18", (k, a, i, c)) for i, c in zip(starts, those))
+            yield Axiom("B19", (k, a, starts[-1]))
+
+
 # The table, the words, and bad input
 
 
 class Table(unittest.TestCase):
-    """No axiom is without its sentence, no literal without its words."""
+    """Each axiom is true, none is without its sentence, and no literal without its words."""
+
+    def test_each_axiom_is_true_of_every_set(self):
+        """The axioms that a framework with rules needs, beside the definitions."""
+        for seed in range(SEED, SEED + 10):
+            framework = random_framework(random.Random(seed))
+            if framework.kind is Kind.ATTACKS:
+                continue
+            view, worlds = View(framework), Worlds(Plain(framework.text()))
+            for axiom in needed_of_contraries(framework):
+                left = [one for one in clause_of(axiom) if view.fact(one.atom) is None]
+                mask = 0
+                for literal in left:
+                    mask |= worlds.mask(literal)
+                true = any(view.fact(one.atom) == one.positive for one in clause_of(axiom))
+                self.assertTrue(true or mask == worlds.all, axiom)
+
+    def test_facts_of_contraries(self):
+        view = View(Framework.of_rules([1, 2], {1: (2, 4)}, [], size=4))
+        for text, value in (
+            ("Con:1:2", True), ("Con:1:4", True), ("Con:1:3", False), ("Con:1:0", False), ("Con:3:2", False),
+            ("ConGap:1:1:2", True), ("ConGap:1:1:3", False), ("ConGap:1:3:4", True), ("ConGap:1:2:2", True),
+            ("ConGap:1:5:1000001", True), ("ConGap:1:1:1000001", False), ("ConGap:2:1:1000001", True),
+            ("ConGap:3:1:1000001", False), ("ConGap:4:2:2", False), ("Hit:1:1:1", None),
+        ):
+            self.assertEqual(view.fact(literal_of(text).atom), value, text)
+
+    def test_clauses_on_contraries(self):
+        for name, numbers, clause in (
+            ("B3", (5,), "-Asm:5 Hit:1:5:1 Der:2:5"),
+            ("B14", (5,), "-Co -Asm:5 Hit:2:5:1 Member:5"),
+            ("B15", (5,), "-St -Asm:5 Member:5 Hit:1:5:1"),
+            ("B18", (2, 5, 3, 7), "-Hit:2:5:3 -ConGap:5:3:7 Der:2:7 Hit:2:5:8"),
+            ("B19", (1, 5, 8), "-Hit:1:5:8 -ConGap:5:8:1000001"),
+        ):
+            self.assertEqual(" ".join(map(str, clause_of(Axiom(name, numbers)))), clause)
 
     def test_each_axiom_has_a_sentence_for_each_literal_it_gives(self):
         for row, (_, clause) in AXIOMS.items():
             group = records.CHAINS.get(row, row)
             if row in records.SILENT:
                 continue
-            for text in clause.split():
-                name = text.removeprefix("-").split(":")[0]
-                if name in certificate.FACTS or name in MODES or name in ("Miss", "Sup") or text.split(":")[-1] not in (
-                        "a", "b", "c", "x", "j", "h", "1"):
-                    continue
-                given = f"{group} {'-' if text.startswith('-') else ''}{name}"
-                self.assertTrue(any(key == given or key.startswith(given + " ") for key in words.SENTENCES), given)
-            self.assertTrue(any(key.startswith(group + " clash") for key in words.SENTENCES), group)
+            for group in ("B3", "B14", "B15") if group == "B18" else (group,):
+                for text in clause.split():
+                    name = text.removeprefix("-").split(":")[0]
+                    unsaid = name in certificate.FACTS or name in MODES or name in ("Miss", "Sup", "Hit")
+                    if not unsaid and text.split(":")[-1] in ("a", "b", "c", "x", "j", "h", "1"):
+                        given = f"{group} {'-' if text.startswith('-') else ''}{name}"
+                        found = [key for key in words.SENTENCES if key == given or key.startswith(given + " ")]
+                        self.assertTrue(found, given)
+                self.assertTrue(any(key.startswith(group + " clash") for key in words.SENTENCES), group)
 
     def test_each_literal_has_words(self):
         view = View(Framework.of_rules([1], {1: 2}, [(2, [1])]))
@@ -688,6 +751,31 @@ a A5 8 3 6
 a A6 8 7
 d -Ad -Member:5 -Attack:8:5 -Gap:8:1:2 -Gap:8:3:6 -Gap:8:7:1000001 -Attack:1:2 -Gap:1:1:1000001 -Attack:7:6 \
 -Gap:7:3:1000001 -Gap:7:1:2 0 3 7 8 9 10 11
+end
+"""
+
+
+# Of 3 and 4, which no rule gives, against 1, and 1 against 2: step 11 is a case of its own.
+NOTHING_AGAINST = """cert 1
+r
+a B16 1
+a B9 1 3
+a B11 1 3 1
+a B1 3
+a B9 1 4
+a B11 1 4 1
+a B1 4
+a B18 1 1 1 3
+a B18 1 1 4 4
+a B19 1 1 5
+d -Ad -Hit:1:1:1 Asm:3 Asm:4 -HGap:3:1:1000001 -HGap:4:1:1000001 -ConGap:1:1:3 -ConGap:1:4:4 -ConGap:1:5:1000001 0 \
+1 4 3 2 7 6 5 8 9 10
+a B3 1
+a B9 1 2
+a B11 1 2 1
+a B13 2 1
+d -Ad -Der:1:2 -Asm:1 -HGap:2:1:1000001 -Con:2:1 Asm:3 Asm:4 -HGap:3:1:1000001 -HGap:4:1:1000001 -ConGap:1:1:3 \
+-ConGap:1:4:4 -ConGap:1:5:1000001 0 11 12 14 13 15
 end
 """
 
@@ -819,6 +907,83 @@ class ByHand(unittest.TestCase):
             "1 2 and 3 could only come from each other, in a circle; so not 2.",
         ])
 
+    def test_a_case_on_several_contraries(self):
+        framework = Framework.of_rules([1, 2], {1: (3, 4), 2: 1}, [], size=4)
+        answer = No(certificate=NOTHING_AGAINST)
+        self.assertEqual(check(framework, "DC-PR", answer, 2, seconds=SECONDS), Accepted())
+        view, read = View(framework), read_certificate(NOTHING_AGAINST)
+        claim = certificate.claims_of(view, "DC-PR", 2, answer, read.sets)[0]
+        found = read_refutation(view, claim, read.refutations[0])
+        self.assertEqual(scope_faults(found, ()), [])
+        for record in walk(found.items):
+            self.assertEqual(faults(Worlds(Plain(framework.text())), found, [], record), [])
+        told = [one for sentence in Narrator(view).refutation(found) for one in sentence.all()]
+        self.assertEqual([f"{one.number} {plain(one.text, str)}{cited(one.cites)}" for one in told], [
+            "1 It doesn't have anything that speaks against 1. Suppose it did:",
+            "2 No rule gives 3, so it can't be derived.",
+            "3 No rule gives 4, so it can't be derived.",
+            "4 It can't be that only 3 and 4 speak against 1, it has something that speaks against 1, it doesn't "
+            "derive 3 and it doesn't derive 4. That can't be. [1, 2]",
+            "5 Since it doesn't have anything that speaks against 1, it doesn't attack 1. [1]",
+            "6 It doesn't attack 1, which speaks against 2: it doesn't defend 2. That can't be.",
+        ])
+
+    def test_either_of_two_contraries(self):
+        """The photograph: print stands where both ways against it are shut, and falls to either."""
+        framework = self.example("photograph.aba")
+        found = reasons(framework, "EE-PR", seconds=SECONDS)
+        self.assertEqual(found.sets, [(1, 3, 5), (2, 4), (2, 5), (3, 4)])
+        first = next(one for one in found.sections if one.heading.startswith("Set 1"))
+        self.assertEqual([found.fill(one.text) for one in first.sentences], [
+            "Print stands: only rights and objection speak against it; rights needs stamp, which is out; objection "
+            "needs letter, which is out.",
+            "Remounted stands: only stamp speaks against it, which falls.",
+            "Call stands: only letter speaks against it, which falls.",
+            "Stamp falls: remounted speaks against it, and it is assumed.",
+            "Letter falls: call speaks against it, and it is assumed.",
+        ])
+        said = [found.fill(one.text) for section in found.sections for one in section.sentences]
+        self.assertIn("Print falls: rights speaks against it, and that follows.", said)
+        self.assertIn("Print falls: objection speaks against it, and that follows.", said)
+
+    def test_all_contraries_shut_out(self):
+        framework = Framework.of_rules([1, 2, 3], {1: (2, 3), 2: 1, 3: 1}, [])
+        found = reasons(framework, "EE-PR", seconds=SECONDS)
+        said = [found.fill(one.text) for section in found.sections for one in section.sentences]
+        self.assertEqual(said[0], "1 stands: only 2 and 3 speak against it, and both fall.")
+        framework = Framework.of_rules([1, 2, 4], {1: (2, 3, 5), 2: (4, 6)}, [(5, [2])])
+        self.assertEqual(self.section(framework, "SE-GR", None, "The grounded set"), [
+            "It assumes 1 and 4.",
+            "1 1 stands: only 2, 3 and 5 speak against it; 2 falls; 3 has no rule; 5 needs 2, which is out.",
+            "2 4 stands: nothing speaks against it.",
+            "3 2 falls: 4 speaks against it, and it is assumed.",
+        ])
+
+    def test_sentences_on_several_contraries(self):
+        """Each way in which an axiom on all contraries of 1, which are 2 and 3, may speak."""
+        view = View(Framework.of_rules([1, 2], {1: (2, 3)}, [(3, [])]))
+        walk_of = lambda k: (Axiom("B18", (k, 1, 1, 2)), Axiom("B18", (k, 1, 3, 3)), Axiom("B19", (k, 1, 4)))
+        for group, k, conclusion, said in (
+            ("B3", 1, "Der:2:1", "it has none of what speaks against 1 (2 and 3), so it doesn't attack 1"),
+            ("B3", 1, "Der:1:2", "it attacks 1, and of what speaks against 1 (2 and 3) it can only have 2; so it "
+                                 "assumes 2"),
+            ("B3", 1, None, "it attacks 1, but has none of what speaks against 1 (2 and 3)"),
+            ("B14", 2, "Member:1", "it shuts out all that speaks against 1 (2 and 3), so it assumes 1"),
+            ("B14", 2, "Der:2:3", "it doesn't assume 1, so something that speaks against 1 (2 and 3) stays open; only "
+                                  "3 may, so it leaves 3 open"),
+            ("B14", 2, None, "it shuts out all that speaks against 1 (2 and 3), but doesn't assume 1"),
+            ("B15", 1, "Member:1", "it must assume or attack 1; it has none of what speaks against 1 (2 and 3), so it "
+                                   "assumes 1"),
+            ("B15", 1, "Der:1:3", "it must assume or attack 1; it doesn't assume it, and of what speaks against 1 (2 "
+                                  "and 3) it can only have 3, so it derives 3"),
+            ("B15", 1, None, "it neither assumes 1 nor has anything that speaks against 1 (2 and 3)"),
+        ):
+            steps = (Axiom(group, (1,)), *walk_of(k))
+            concluded = None if conclusion is None else literal_of(conclusion)
+            record = Record(group, concluded, (), records.facts_of(view, steps), steps)
+            self.assertEqual(plain(Wording(view).of(record), str), said)
+            self.assertEqual(only(record, "contraries"), [(1, (2, 3))])
+
     def test_grounded(self):
         found = self.section(self.example("rivals.af"), "SE-GR", None, "The grounded set")
         self.assertEqual(found[1:], [
@@ -935,7 +1100,9 @@ class BadInput(unittest.TestCase):
         self.assertIn("These reasons take", found.text() + made) if any(s.summary for s in found.sections) else None
 
     def test_each_task_of_the_examples_has_its_text_and_page(self):
-        for name, number in (("inheritance.af", 4), ("anticoagulant.aba", 8), ("loops.af", 2), ("self.af", 1)):
+        attacks = (("inheritance.af", 4), ("loops.af", 2), ("self.af", 1))
+        rules = (("anticoagulant.aba", 8), ("photograph.aba", 1))
+        for name, number in attacks + rules:
             framework = Framework.from_file(EXAMPLES / name)
             for task in framework.tasks:
                 found = reasons(framework, task, number if task.startswith("D") else None, seconds=SECONDS)
