@@ -119,6 +119,20 @@ const BLOCKED: Framework = Framework {
     rules: &[(1, 3, &[1]), (2, 4, &[1]), (3, 3, &[2])],
 };
 
+/// One with two contraries, each of which it is the contrary of.
+const SEVERAL: Framework = Framework {
+    assumptions: &[1, 2, 3],
+    contraries: &[(1, 2), (1, 3), (2, 1), (3, 1)],
+    rules: &[],
+};
+
+/// Two contraries, of which one follows from nothing.
+const EITHER: Framework = Framework {
+    assumptions: &[1],
+    contraries: &[(1, 2), (1, 3)],
+    rules: &[(1, 3, &[])],
+};
+
 const ROWS: &[Row] = &[
     (NONE, Admissible, &[&[]]),
     (NONE, Stable, &[&[]]),
@@ -155,6 +169,12 @@ const ROWS: &[Row] = &[
     (BLOCKED, Stable, &[&[2]]),
     (BLOCKED, InAllPreferred, &[&[], &[2]]),
     (BLOCKED, Ideal, &[&[2]]),
+    (SEVERAL, ConflictFree, &[&[], &[1], &[2], &[3], &[2, 3]]),
+    (SEVERAL, Complete, &[&[], &[1], &[2, 3]]),
+    (SEVERAL, Preferred, &[&[1], &[2, 3]]),
+    (SEVERAL, Stable, &[&[1], &[2, 3]]),
+    (EITHER, ConflictFree, &[&[]]),
+    (EITHER, Stable, &[&[]]),
 ];
 
 #[test]
