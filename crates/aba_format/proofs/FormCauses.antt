@@ -1,6 +1,6 @@
 -- Which causes stand on the fields of a line.
-use Rattle.std.proofs.Common.{◌≡◌, ℕ, zero, suc, ◌+◌, ◌<◌, ◌≤◌, List, [], ◌∷◌, ◌++◌, length, get_or, refl, sym, ap, subst, ◌∙◌, ◌⊎◌, inl, inr, ⊎_elim, arith}
-use Rattle.std.specs.Prelude.{Contains, codes, All, Option, Some, None}
+use Rattle.std.proofs.Common.{◌≡◌, ℕ, zero, suc, ◌≤◌, List, [], ◌∷◌, get_or, refl, sym, ap, subst, ◌⊎◌, inl, inr, arith}
+use Rattle.std.specs.Prelude.{Contains, codes, All, Option, Some}
 use Rattle.std.specs.List.{AllZip}
 use Rattle.std.proofs.lemmas.Bool.{cases_lt}
 use Rattle.std.proofs.lemmas.List.Elements.{All-nil, All-cons, All-head, All-tail}
@@ -11,7 +11,7 @@ use Rattle.af_format.specs.declared.fault.LineCause.TheVariants.{NoHeader, Wrong
 use Rattle.af_format.specs.Causes.{rank, IsFirstCause}
 use Rattle.af_format.specs.Headers.{BeginWithP}
 use Rattle.af_format.specs.Faults.{HaveNoNumber, HaveOutsider}
-use Rattle.af_format.proofs.LineCauses.{IsNumber-same, none_read}
+use Rattle.af_format.proofs.LineCauses.{none_read}
 use Rattle.semantics.specs.AbaFrameworks.{IsAtom}
 use Rattle.aba_format.specs.AbaText.{SpellsAtom}
 use Rattle.aba_format.specs.declared.stop.LineStop.{LineStop}

@@ -1,34 +1,30 @@
 -- Which cause is told of a line that is refused, and that none stands on one that is taken in.
-use Rattle.std.proofs.Common.{◌≡◌, ℕ, zero, suc, ◌+◌, ◌<◌, ◌≤◌, List, [], ◌∷◌, ◌++◌, length, map, take, drop}
+use Rattle.std.proofs.Common.{◌≡◌, ℕ, ◌+◌, ◌<◌, ◌≤◌, List, [], ◌∷◌, ◌++◌, length, take, drop}
 use Rattle.std.proofs.Common.{get_or, refl, sym, ap, subst, ◌∙◌, ◌⊎◌, inl, inr, ⊎_elim, Bool, true, false, cond}
 use Rattle.std.proofs.Common.{arith}
-use Rattle.std.specs.Prelude.{Contains, codes, count_by}
+use Rattle.std.specs.Prelude.{Contains, count_by}
 use Rattle.std.specs.List.{AllZip}
-use Rattle.std.proofs.lemmas.List.{length-append, length-map, take-append-drop, take_more}
+use Rattle.std.proofs.lemmas.List.{length-map, take-append-drop, take_more}
 use Rattle.std.proofs.lemmas.List.Sums.{count_by_more_yes, sum_by-append}
 use Rattle.std.proofs.lemmas.List.Elements.{Contains-append_left}
 use Rattle.lists.proofs.Membership.{Contains-pushed}
 use Rattle.num_text.specs.Cuts.{LineText, field_texts}
-use Rattle.num_text.specs.Number.{IsNumber}
 use Rattle.af_format.specs.declared.fault.LineCause.{LineCause}
 use Rattle.af_format.specs.declared.fault.LineCause.TheVariants.{NoHeader, WrongKind, BadHeader, SecondHeader}
 use Rattle.af_format.specs.declared.fault.LineCause.TheVariants.{BadLine, BadNumber, OutOfRange, TooManyLines}
 use Rattle.af_format.specs.declared.fault.LineCause.TheVariants.{NotFlat, ContraryOfNonAssumption}
 use Rattle.af_format.specs.Causes.{rank, IsFirstCause}
-use Rattle.af_format.specs.Faults.{HaveNoNumber, HaveOutsider}
 use Rattle.af_format.proofs.LineCauses.{IsNumber-same}
 use Rattle.af_format.proofs.Zips.{AllZip-at}
-use Rattle.semantics.specs.AbaFrameworks.{IsAtom}
 use Rattle.aba_format.specs.AbaText.{Said, says_assumption, says_contrary, says_rule, keyword, atoms_of}
-use Rattle.aba_format.specs.AbaText.{SpellsAtom, SaysLine, contraries_said, rules_said, AreLines}
-use Rattle.aba_format.specs.Faults.{HaveForm, behind_first, StandsOnFields, is_contrary_line, is_rule_line, SaySome}
+use Rattle.aba_format.specs.AbaText.{SpellsAtom, SaysLine, rules_said, AreLines}
+use Rattle.aba_format.specs.Faults.{HaveForm, StandsOnFields, is_contrary_line, is_rule_line, SaySome}
 use Rattle.aba_format.specs.Faults.{AreNotFlat, IsOneTooMany, StandsOnLine}
-use Rattle.aba_format.specs.Reading.{is_marked, IsSaidIn, Refuses, IsRefusedLine, IsStopped}
+use Rattle.aba_format.specs.Reading.{IsSaidIn, Refuses, IsStopped}
 use Rattle.aba_format.specs.declared.said.LineParts.{LineParts}
-use Rattle.aba_format.specs.declared.said.TheConstants.{MAX_CONTRARY_LINES, MAX_RULE_LINES}
 use Rattle.aba_format.proofs.FormCauses.{a_not_p, c_not_p, r_not_p}
 use Rattle.aba_format.proofs.SaysLemmas.{contrary_line, contrary_lines_count, is_contrary, is_rule, rule_line}
-use Rattle.aba_format.proofs.SaysLemmas.{rule_lines_count, says_said, said_by_line, SaysLine-same}
+use Rattle.aba_format.proofs.SaysLemmas.{rule_lines_count, says_said, said_by_line}
 
 -- ---- the fields
 

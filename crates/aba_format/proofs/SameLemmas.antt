@@ -1,19 +1,17 @@
 -- A text has one reading.
-use Rattle.std.proofs.Common.{◌≡◌, ℕ, zero, suc, ◌+◌, ◌<◌, ◌≤◌, List, [], ◌∷◌, ◌++◌, length, map, get_or, refl, sym, ap, subst, ◌∙◌, ◌⊎◌, inl, inr, ⊎_elim, arith}
-use Rattle.std.specs.Prelude.{Contains, ◌↔◌}
+use Rattle.std.proofs.Common.{◌≡◌, ℕ, ◌+◌, List, [], ◌∷◌, length, map, get_or, refl, sym, ap, subst, ◌∙◌}
+use Rattle.std.specs.Prelude.{Contains}
 use Rattle.std.specs.List.{AllZip, range_with_len}
 use Rattle.std.specs.List.Sorted.{IsStrictlyIncreasing}
-use Rattle.std.proofs.lemmas.List.{length-map}
 use Rattle.std.proofs.lemmas.Slice.Zip.{AllZip-long}
 use Rattle.lists.proofs.Membership.{Contains-head, Contains-tail}
 use Rattle.num_text.specs.Cuts.{LineText}
-use Rattle.num_text.specs.Lines.{kept}
-use Rattle.af_format.specs.Headers.{aba_word, IsHeaderOf, BeginWith}
+use Rattle.af_format.specs.Headers.{aba_word, IsHeaderOf}
 use Rattle.af_format.proofs.LineCauses.{IsHeaderOf-same}
 use Rattle.af_format.proofs.Readings.{rising_same}
 use Rattle.semantics.specs.Rules.{Rule}
-use Rattle.semantics.specs.AbaFrameworks.{Aba, IsNumberedAba}
-use Rattle.aba_format.specs.AbaText.{Said, says_assumption, says_contrary, SaysLine, rules_said, IsAbaText, IsRuleSaid, IsFrameworkOf, ReadsAs}
+use Rattle.semantics.specs.AbaFrameworks.{Aba}
+use Rattle.aba_format.specs.AbaText.{Said, SaysLine, rules_said, IsAbaText, IsRuleSaid, IsFrameworkOf, ReadsAs}
 use Rattle.aba_format.proofs.SaysLemmas.{SaysLine-same}
 use Rattle.lists.proofs.RisingLists.{same_rising}
 use Rattle.lists.proofs.Zips.{zip_same}

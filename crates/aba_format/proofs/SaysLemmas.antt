@@ -1,12 +1,11 @@
 -- A line says one thing alone.
-use Rattle.std.proofs.Common.{◌≡◌, ℕ, zero, suc, ◌+◌, ◌<◌, ◌≤◌, List, [], ◌∷◌, ◌++◌, length, get_or, refl, sym, ap, subst, ◌∙◌, ◌⊎◌, inl, inr, ⊎_elim, Bool, true, false, arith}
-use Rattle.std.specs.Prelude.{Contains, codes, count_by}
+use Rattle.std.proofs.Common.{◌≡◌, ℕ, zero, suc, ◌<◌, List, [], ◌∷◌, ◌++◌, length, get_or, refl, sym, ap, subst, ◌∙◌, ⊎_elim, Bool, true, false, arith}
+use Rattle.std.specs.Prelude.{Contains, count_by}
 use Rattle.std.specs.List.{AllZip}
-use Rattle.num_text.specs.Cuts.{LineText, field_texts}
+use Rattle.num_text.specs.Cuts.{LineText}
 use Rattle.lists.proofs.Counts.{count_yes, count_no}
 use Rattle.lists.proofs.Membership.{Contains-head, Contains-tail, Contains-cons_cases}
 use Rattle.af_format.proofs.LineCauses.{IsNumber-same}
-use Rattle.af_format.proofs.Zips.{AllZip-at}
 use Rattle.semantics.specs.AbaFrameworks.{IsAtom}
 use Rattle.aba_format.specs.AbaText.{Said, says_assumption, says_contrary, says_rule, keyword, atoms_of, SpellsAtom, SaysLine, contraries_said, rules_said}
 use Rattle.aba_format.specs.Faults.{behind_first, begin_with, is_contrary_line, is_rule_line, SaySome}

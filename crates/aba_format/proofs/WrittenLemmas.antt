@@ -1,11 +1,11 @@
 -- A text that was written reads as the framework that it was written of.
-use Rattle.std.proofs.Common.{◌≡◌, ℕ, zero, suc, ◌+◌, ◌*◌, ◌<◌, ◌≤◌, ◌==◌, false, not, List, [], ◌∷◌, ◌++◌, length, take, drop, get_or, map, filter, refl, sym, ap, subst, ◌∙◌, ◌⊎◌, inl, inr, ⊎_elim, arith}
+use Rattle.std.proofs.Common.{◌≡◌, ℕ, zero, suc, ◌+◌, ◌<◌, ◌≤◌, ◌==◌, false, not, List, [], ◌∷◌, ◌++◌, length, take, get_or, map, filter, refl, sym, ap, subst, ◌∙◌, ◌⊎◌, inl, inr, ⊎_elim, arith}
 use Rattle.std.specs.Prelude.{Contains, codes, All}
-use Rattle.std.specs.List.{AllZip, flat_map, range_with_len}
+use Rattle.std.specs.List.{AllZip, flat_map}
 use Rattle.std.specs.Fmt.{decimal}
 use Rattle.std.proofs.lemmas.Bool.{cond-true}
 use Rattle.std.proofs.lemmas.Grind.{flat_map-append}
-use Rattle.std.proofs.lemmas.List.{length-append, length-map, append_assoc, append-nil, flat_map_more, take_more}
+use Rattle.std.proofs.lemmas.List.{length-map, append_assoc, append-nil, flat_map_more, take_more}
 use Rattle.std.proofs.lemmas.List.Elements.{All-nil, All-cons, All-head, All-tail, All-append, Contains-append_left, Contains-append_right, Contains-append_cases, Contains-get_or}
 use Rattle.std.proofs.lemmas.List.Splits.{slice_split_none, slice_split_at}
 use Rattle.num_text.specs.Cuts.{LineText, is_line_end, is_blank, field_texts, lines_from, lines_of}
@@ -20,7 +20,7 @@ use Rattle.af_format.proofs.RoundTrip.{line_at, first_line_is}
 use Rattle.semantics.specs.Rules.{Rule}
 use Rattle.semantics.specs.AbaFrameworks.{Aba, IsAtom, IsNumberedAba}
 use Rattle.aba_notions.specs.Solid.{IsSolid}
-use Rattle.aba_format.specs.AbaText.{Said, says_assumption, says_contrary, says_rule, keyword, atoms_of, SpellsAtom, SaysLine, contraries_said, rules_said, AreConsistent, AreLines, IsRuleSaid, IsFrameworkOf, ReadsAs}
+use Rattle.aba_format.specs.AbaText.{Said, says_assumption, says_contrary, says_rule, keyword, atoms_of, SpellsAtom, SaysLine, contraries_said, rules_said, AreConsistent, IsRuleSaid, IsFrameworkOf, ReadsAs}
 use Rattle.aba_format.specs.Written.{header_line, spaced, said_line, assumption_line, contrary_line, rule_line, aba_text}
 use Rattle.aba_format.specs.declared.said.TheConstants.{MAX_CONTRARY_LINES}
 use Rattle.aba_format.proofs.SaysLemmas.{contraries_said-append, rules_said-append}

@@ -2,7 +2,6 @@
 use Rattle.std.specs.Prelude.{◌≡◌, ◌↔◌, ℕ, ◌+◌, ◌<◌, ◌≤◌, Contains, length}
 use Rattle.semantics.specs.declared.numbers.TheConstants.{MAX_ATOM, MAX_RULE}
 use Rattle.semantics.specs.AbaFrameworks.{Aba, IsAtom, IsNumberedAba}
-use Rattle.aba_notions.specs.Solid.{IsSolid}
 use Rattle.aba_notions.specs.Storage.{AreContraries, AreRulesOf}
 use Rattle.std.specs.List.{range_with_len}
 use Rattle.aba_format.specs.declared.said.LineParts.{LineParts}

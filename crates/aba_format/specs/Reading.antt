@@ -1,10 +1,8 @@
 -- How a text is read, line by line.
 use Rattle.std.specs.Prelude.{◌≡◌, ◌⊎◌, ℕ, ◌+◌, ◌<◌, ◌≤◌, Bool, true, false, List, [], ◌∷◌, ◌++◌, length, map}
 use Rattle.std.specs.Prelude.{Contains, slice_index_or, slice_set}
-use Rattle.std.specs.List.{AllZip, AllPairs}
+use Rattle.std.specs.List.{AllPairs}
 use Rattle.num_text.specs.Cuts.{LineText, FieldText, field_texts}
-use Rattle.num_text.specs.Number.{IsNumber}
-use Rattle.semantics.specs.AbaFrameworks.{IsAtom}
 use Rattle.af_format.specs.declared.fault.LineCause.{LineCause}
 use Rattle.af_format.specs.declared.fault.LineCause.TheVariants.{BadNumber, TooManyLines, NotFlat}
 use Rattle.af_format.specs.declared.fault.LineCause.TheVariants.{ContraryOfNonAssumption}

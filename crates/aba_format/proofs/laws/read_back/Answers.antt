@@ -1,4 +1,4 @@
-use Rattle.std.proofs.Common.{sym, rules}
+use Rattle.std.proofs.Common.{sym}
 use Rattle.std.proofs.lemmas.Result.{IfOk-weaker, IfErr-weaker}
 use Rattle.aba_format.specs.AbaText.{ReadsAs}
 use Rattle.aba_format.proofs.FaultLemmas.{no_fault_told}
