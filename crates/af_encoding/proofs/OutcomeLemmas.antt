@@ -8,7 +8,7 @@ use Rattle.semantics.specs.Framework.{Af, Attacks}
 use Rattle.semantics.specs.Frameworks.{Framework, af, IsNumberedAf}
 use Rattle.meaning_atoms.specs.declared.axiom.AxiomName.{AxiomName}
 use Rattle.edit_rules.specs.declared.edit.Edit.{Edit}
-use Rattle.edit_rules.specs.declared.edit.Edit.TheVariants.{ArgAdd, ArgDrop, AttackAdd, AttackDrop, AsmAdd, AsmDrop, ConSet, RuleAdd, RuleDrop}
+use Rattle.edit_rules.specs.declared.edit.Edit.TheVariants.{ArgAdd, ArgDrop, AttackAdd, AttackDrop, AsmAdd, AsmDrop, ConSet, ConAdd, ConDrop, RuleAdd, RuleDrop}
 use Rattle.edit_rules.specs.declared.effect.Effect.{Effect}
 use Rattle.edit_rules.specs.Numbers.{has_number}
 use Rattle.edit_rules.specs.Pairs.{has_pair}
@@ -233,6 +233,8 @@ own_edit f (AttackDrop b a) after effect is =
 own_edit f (AsmAdd a c) after effect is = absurd (false≢true (ap is_ok is))
 own_edit f (AsmDrop a) after effect is = absurd (false≢true (ap is_ok is))
 own_edit f (ConSet a c) after effect is = absurd (false≢true (ap is_ok is))
+own_edit f (ConAdd a c) after effect is = absurd (false≢true (ap is_ok is))
+own_edit f (ConDrop a c) after effect is = absurd (false≢true (ap is_ok is))
 own_edit f (RuleAdd h body) after effect is = absurd (false≢true (ap is_ok is))
 own_edit f (RuleDrop r) after effect is = absurd (false≢true (ap is_ok is))
 
