@@ -8,16 +8,17 @@ use Rattle.semantics.specs.Framework.{Af, Attacks}
 use Rattle.semantics.specs.Frameworks.{Framework, af, IsNumberedAf}
 use Rattle.meaning_atoms.specs.declared.axiom.AxiomName.{AxiomName}
 use Rattle.edit_rules.specs.declared.edit.Edit.{Edit}
-use Rattle.edit_rules.specs.declared.edit.Edit.TheVariants.{ArgAdd, ArgDrop, AttackAdd, AttackDrop, AsmAdd, AsmDrop, ConSet, RuleAdd, RuleDrop}
+use Rattle.edit_rules.specs.declared.edit.Edit.TheVariants.{ArgAdd, ArgDrop, AttackAdd, AttackDrop, AsmAdd, AsmDrop, ConSet, ConAdd, ConDrop, RuleAdd, RuleDrop}
 use Rattle.edit_rules.specs.declared.effect.Effect.{Effect}
 use Rattle.edit_rules.specs.Numbers.{has_number}
-use Rattle.edit_rules.specs.Edits.{af_with_argument, af_with_attack, argument_added, argument_dropped, attack_added, attack_dropped, edit_outcome, has_pair, is_end}
+use Rattle.edit_rules.specs.Pairs.{has_pair}
+use Rattle.edit_rules.specs.Edits.{af_with_argument, af_with_attack, argument_added, argument_dropped, attack_added, attack_dropped, edit_outcome, is_end}
 use Rattle.edit_rules.proofs.EditWordTests.{both_gives, either_gives, either_left, number_there, there_number}
 use Rattle.edit_rules.proofs.EditTests.{pair_there, there_pair, within_bounds}
 use Rattle.edit_rules.proofs.RefusalLemmas.{done_passes}
 use Rattle.edit_rules.proofs.ReplayLemmas.{af_of}
 use Rattle.edit_rules.proofs.NumberLists.{with_number_members}
-use Rattle.edit_rules.proofs.RowForms.{with_pair_members}
+use Rattle.edit_rules.proofs.PairLists.{with_pair_members}
 use Rattle.af_encoding.specs.Changes.{IsAlone, IsCalledByAttack, IsCalledByLoss, IsCalledByPairs, IsCalledFor, IsEffectOf}
 use Rattle.af_encoding.proofs.ChangeLemmas.{GainsArgument, IsGainedRow, IsLostRow, IsSameRow, LosesArgument, by_argument, by_attack, by_loss, by_new_argument}
 use Rattle.lists.proofs.TruthValues.{both_from}
@@ -232,6 +233,8 @@ own_edit f (AttackDrop b a) after effect is =
 own_edit f (AsmAdd a c) after effect is = absurd (false≢true (ap is_ok is))
 own_edit f (AsmDrop a) after effect is = absurd (false≢true (ap is_ok is))
 own_edit f (ConSet a c) after effect is = absurd (false≢true (ap is_ok is))
+own_edit f (ConAdd a c) after effect is = absurd (false≢true (ap is_ok is))
+own_edit f (ConDrop a c) after effect is = absurd (false≢true (ap is_ok is))
 own_edit f (RuleAdd h body) after effect is = absurd (false≢true (ap is_ok is))
 own_edit f (RuleDrop r) after effect is = absurd (false≢true (ap is_ok is))
 

@@ -48,6 +48,8 @@ fn push_changed(plain: &AfPlain, names: &mut Vec<AxiomName>, effect: &Effect) ->
         Edit::AsmAdd(_, _)
         | Edit::AsmDrop(_)
         | Edit::ConSet(_, _)
+        | Edit::ConAdd(_, _)
+        | Edit::ConDrop(_, _)
         | Edit::RuleAdd(_, _)
         | Edit::RuleDrop(_) => Ok(()),
     }

@@ -7,7 +7,8 @@ use Rattle.semantics.specs.Framework.{Af}
 use Rattle.semantics.specs.Frameworks.{IsNumberedAf}
 use Rattle.dung_notions.specs.Neighbours.{AreArguments, AreBetween}
 use Rattle.lists.proofs.Membership.{Contains-cons_cases, Contains-head, Contains-nil, Contains-tail}
-use Rattle.edit_rules.proofs.RowForms.{with_attack_form, with_pair_members}
+use Rattle.edit_rules.proofs.PairLists.{with_pair_members}
+use Rattle.edit_rules.proofs.RowForms.{with_attack_form}
 use Rattle.bench_runs.specs.Generator.{attacker_of, attacks_drawn, attacks_on, bench_framework, first, next_state}
 use Rattle.bench_runs.specs.Generator.{rising, state_before}
 use Rattle.bench_runs.proofs.Numbers.{for_listed, listed_for, number_from, number_in, numbers_rise}

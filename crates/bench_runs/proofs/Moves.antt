@@ -7,7 +7,7 @@ use Rattle.lists.proofs.Membership.{Contains-head, Contains-nil, Contains-tail}
 use Rattle.semantics.specs.Framework.{Af}
 use Rattle.semantics.specs.Frameworks.{Framework, af, aba, IsNumberedAf}
 use Rattle.edit_rules.specs.declared.edit.Edit.{Edit}
-use Rattle.edit_rules.specs.declared.edit.Edit.TheVariants.{ArgAdd, ArgDrop, AttackAdd, AttackDrop, AsmAdd, AsmDrop, ConSet, RuleAdd, RuleDrop}
+use Rattle.edit_rules.specs.declared.edit.Edit.TheVariants.{ArgAdd, ArgDrop, AttackAdd, AttackDrop, AsmAdd, AsmDrop, ConSet, ConAdd, ConDrop, RuleAdd, RuleDrop}
 use Rattle.edit_rules.specs.declared.effect.Effect.{Effect}
 use Rattle.edit_rules.specs.declared.effect.EditFault.{EditFault}
 use Rattle.edit_rules.specs.declared.effect.EditFault.TheVariants.{AttackIsThere, NoSuchAttack}
@@ -15,10 +15,11 @@ use Rattle.edit_rules.specs.Refusals.{Refusal, done_unless, refused_if}
 use Rattle.edit_rules.specs.Numbers.{has_number}
 use Rattle.edit_rules.proofs.EditWordTests.{both_gives, both_from, same_pair, is_false, there_number}
 use Rattle.edit_rules.proofs.RefusalLemmas.{done_row, passed}
-use Rattle.edit_rules.specs.Edits.{attack_added, attack_dropped, edit_outcome, end_refusals, has_pair, outside, unknown}
+use Rattle.edit_rules.specs.Pairs.{has_pair}
+use Rattle.edit_rules.specs.Edits.{attack_added, attack_dropped, edit_outcome, end_refusals, outside, unknown}
 use Rattle.edit_rules.specs.Replay.{IsTaken, after_edit, left_by, replay}
 use Rattle.edit_rules.proofs.EditTests.{bounds_within, pair_there, there_pair}
-use Rattle.edit_rules.proofs.RowForms.{with_pair_members}
+use Rattle.edit_rules.proofs.PairLists.{with_pair_members}
 
 -- an edit that adds an attack or drops one
 abbrev pub IsMove : Edit → Type 0
@@ -72,6 +73,8 @@ stays_once (af f) (ArgDrop n) p is never c = absurd is
 stays_once (af f) (AsmAdd a d) p is never c = absurd is
 stays_once (af f) (AsmDrop a) p is never c = absurd is
 stays_once (af f) (ConSet a d) p is never c = absurd is
+stays_once (af f) (ConAdd a d) p is never c = absurd is
+stays_once (af f) (ConDrop a d) p is never c = absurd is
 stays_once (af f) (RuleAdd h body) p is never c = absurd is
 stays_once (af f) (RuleDrop r) p is never c = absurd is
 stays_once (aba f) edit p is never c = absurd (Contains-nil p c)
@@ -94,6 +97,8 @@ was_once (af f) (ArgDrop n) p is never = absurd is
 was_once (af f) (AsmAdd a d) p is never = absurd is
 was_once (af f) (AsmDrop a) p is never = absurd is
 was_once (af f) (ConSet a d) p is never = absurd is
+was_once (af f) (ConAdd a d) p is never = absurd is
+was_once (af f) (ConDrop a d) p is never = absurd is
 was_once (af f) (RuleAdd h body) p is never = absurd is
 was_once (af f) (RuleDrop r) p is never = absurd is
 was_once (aba f) (AttackAdd b a) p is never = λ c. c
@@ -103,6 +108,8 @@ was_once (aba f) (ArgDrop n) p is never = absurd is
 was_once (aba f) (AsmAdd a d) p is never = absurd is
 was_once (aba f) (AsmDrop a) p is never = absurd is
 was_once (aba f) (ConSet a d) p is never = absurd is
+was_once (aba f) (ConAdd a d) p is never = absurd is
+was_once (aba f) (ConDrop a d) p is never = absurd is
 was_once (aba f) (RuleAdd h body) p is never = absurd is
 was_once (aba f) (RuleDrop r) p is never = absurd is
 
@@ -119,6 +126,8 @@ live_once (af f) (ArgDrop n) is = absurd is
 live_once (af f) (AsmAdd a d) is = absurd is
 live_once (af f) (AsmDrop a) is = absurd is
 live_once (af f) (ConSet a d) is = absurd is
+live_once (af f) (ConAdd a d) is = absurd is
+live_once (af f) (ConDrop a d) is = absurd is
 live_once (af f) (RuleAdd h body) is = absurd is
 live_once (af f) (RuleDrop r) is = absurd is
 live_once (aba f) (AttackAdd b a) is = refl
@@ -128,6 +137,8 @@ live_once (aba f) (ArgDrop n) is = absurd is
 live_once (aba f) (AsmAdd a d) is = absurd is
 live_once (aba f) (AsmDrop a) is = absurd is
 live_once (aba f) (ConSet a d) is = absurd is
+live_once (aba f) (ConAdd a d) is = absurd is
+live_once (aba f) (ConDrop a d) is = absurd is
 live_once (aba f) (RuleAdd h body) is = absurd is
 live_once (aba f) (RuleDrop r) is = absurd is
 

@@ -4,7 +4,7 @@
 use Rattle.std.specs.Prelude.{ℕ, zero, suc, ◌+◌, ◌-◌, ◌*◌, ◌/◌, ◌%◌, ◌^◌, List, [], ◌∷◌}
 use Rattle.std.specs.List.{flat_map, range_with_len}
 use Rattle.semantics.specs.Framework.{Af}
-use Rattle.edit_rules.specs.Edits.{with_pair}
+use Rattle.edit_rules.specs.Pairs.{with_pair}
 use Rattle.bench_runs.specs.declared.draws.TheConstants.{INCREMENT, MULTIPLIER}
 
 -- the state behind a state, modulo 2 ^ 64

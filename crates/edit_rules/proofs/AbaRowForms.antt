@@ -1,7 +1,8 @@
 -- The frameworks behind the edits are in form.
 use Rattle.std.proofs.Common.{Result, Ok, Err, IfOk, ◌≡◌, ◌<◌, ◌≤◌, ◌+◌, ℕ, false, not, List, [], ◌∷◌, ◌++◌, refl}
 use Rattle.std.proofs.Common.{ap, sym, subst, ◌∙◌, map, get_or, arith, ⊎_elim, inl, inr}
-use Rattle.std.specs.Prelude.{Contains, ◌↔◌, ◌==◌, filter, nat_le, nat_lt, ◌&&◌}
+use Rattle.std.specs.Prelude.{Contains, ◌↔◌, ◌≢◌, ◌==◌, nat_le, nat_lt, ◌&&◌}
+use Rattle.std.specs.List.{AllPairs}
 use Rattle.std.specs.List.Sorted.{IsStrictlyIncreasing}
 use Rattle.std.proofs.lemmas.Bool.{false≢true, eqb-true, leb-true, lt-ltb, not-false, not_from_false, cases_lt}
 use Rattle.std.proofs.lemmas.List.{map_push}
@@ -12,19 +13,23 @@ use Rattle.lists.proofs.Membership.{Contains-nil, Contains-head, Contains-tail, 
 use Rattle.set_lists.proofs.Rising.{rises_append}
 use Rattle.semantics.specs.declared.numbers.TheConstants.{MAX_RULE}
 use Rattle.semantics.specs.Rules.{Rule}
+use Rattle.semantics.specs.Framework.{IsPairBefore}
 use Rattle.semantics.specs.AbaFrameworks.{Aba, IsAtom, IsRuleOf, IsNumberedAba}
+use Rattle.aba_notions.specs.Storage.{AreContraries, aba_of}
 use Rattle.edit_rules.specs.declared.effect.EditFault.TheVariants.{NotFlat, OutOfRange}
-use Rattle.edit_rules.specs.Numbers.{has_number, with_number}
+use Rattle.edit_rules.specs.Numbers.{has_number}
+use Rattle.edit_rules.specs.Pairs.{with_pair, without_pair}
 use Rattle.edit_rules.specs.Refusals.{refused_if, NoneStands}
 use Rattle.edit_rules.proofs.EditWordTests.{absent, both_gives, is_false, number_there}
 use Rattle.edit_rules.proofs.NumberLists.{with_number_rises, with_number_members}
-use Rattle.edit_rules.specs.AbaEdits.{beyond, in_order, heads_of, numbers_of, next_rule, rules_but}
+use Rattle.edit_rules.specs.AbaEdits.{beyond, in_order, heads_of, numbers_of, next_rule, rules_but, with_contrary}
 use Rattle.edit_rules.specs.AbaEdits.{aba_with_assumption, aba_without_assumption, aba_with_contrary}
-use Rattle.edit_rules.specs.AbaEdits.{aba_with_rule, aba_without_rule}
-use Rattle.edit_rules.specs.AbaEdits.{assumption_added, contrary_set, rule_added}
+use Rattle.edit_rules.specs.AbaEdits.{aba_with_pair, aba_without_pair, aba_with_rule, aba_without_rule}
+use Rattle.edit_rules.specs.AbaEdits.{assumption_added, contrary_set, contrary_added, rule_added}
 use Rattle.edit_rules.proofs.RefusalLemmas.{each_passes, each_stands_not, parts_stand_not}
-use Rattle.edit_rules.proofs.ContraryLists.{filter-map, firsts_with, firsts_without, with_member}
+use Rattle.edit_rules.proofs.ContraryLists.{filter-map, not_from, with_contrary_rises, without_contrary_rises}
 use Rattle.edit_rules.proofs.ContraryLists.{with_contrary_members, without_contrary_members}
+use Rattle.edit_rules.proofs.PairLists.{with_pair_rises, with_pair_members, without_pair_rises, without_pair_members}
 use Rattle.lists.proofs.Images.{image_there, image_from}
 
 -- ---- bodies
@@ -52,6 +57,14 @@ in_range low high x h =
 pub is_atom : (atoms x : ℕ) → (beyond 1 atoms x).stands ≡ false → IsAtom atoms x
 is_atom atoms x h = let r = in_range 1 atoms x h in record { low = r.0; high = r.1 }
 
+-- the contrary of a new pair, which isn't 0
+contrary_is : (atoms c d : ℕ) → c ≤ atoms → c ≢ 0 → d ≡ c → IsAtom atoms d
+contrary_is atoms c d bound some e =
+    subst (IsAtom atoms) (sym e) (record {
+      low = ⊎_elim (λ (lt : c < 1). absurd (some (omega arith))) (λ ge. ge) (cases_lt c 1);
+      high = bound;
+    })
+
 -- ---- forms
 
 -- a rule of a framework is one of another with the same atoms that has given as many numbers, where its head is no
@@ -75,10 +88,14 @@ with_assumption_fits f a c ok atom bound free = record {
     assumptions_are = λ b d. ⊎_elim (λ h. ok.form.assumptions_are b h)
         (λ (e : b ≡ a). subst (IsAtom f.atoms) (sym e) atom)
         ((with_number_members a f.assumptions b).0 d);
-    one_contrary = firsts_with a c f.contraries ∙ ap (with_number a) ok.form.one_contrary;
+    contraries_rise = with_contrary_rises a c f.contraries ok.form.contraries_rise;
     contraries_are = λ b d h. ⊎_elim
-        (λ l. ok.form.contraries_are b d ((without_contrary_members a f.contraries (b, d)).0 l).0)
-        (λ (e : (b, d) ≡ (a, c)). subst (λ n. n ≤ f.atoms) (sym (ap (λ p. p.1) e)) bound)
+        (λ l. let old = ok.form.contraries_are b d ((without_contrary_members a f.contraries (b, d)).0 l).0 in
+        ((with_number_members a f.assumptions b).1 (inl old.0), old.1))
+        (λ (e : ((b, d) ≡ (a, c)) × (c ≢ 0)). (
+          (with_number_members a f.assumptions b).1 (inr (ap (λ p. p.0) e.0)),
+          contrary_is f.atoms c d bound e.1 (ap (λ p. p.1) e.0),
+        ))
         ((with_contrary_members a c f.contraries (b, d)).0 h);
     numbers_rise = ok.form.numbers_rise;
     rules_are = λ r h. let old = ok.form.rules_are r h in
@@ -104,8 +121,12 @@ without_assumption_form f a ok = record {
   form = record {
     assumptions_rise = IsStrictlyIncreasing-filter (λ b. not (b == a)) f.assumptions ok.form.assumptions_rise;
     assumptions_are = λ b d. ok.form.assumptions_are b ((Contains-filter (λ b. not (b == a)) f.assumptions b).0 d).0;
-    one_contrary = firsts_without a f.contraries ∙ ap (filter (λ b. not (b == a))) ok.form.one_contrary;
-    contraries_are = λ b d h. ok.form.contraries_are b d ((without_contrary_members a f.contraries (b, d)).0 h).0;
+    contraries_rise = without_contrary_rises a f.contraries ok.form.contraries_rise;
+    contraries_are = λ b d h. let l = (without_contrary_members a f.contraries (b, d)).0 h in
+        let old = ok.form.contraries_are b d l.0 in (
+          (Contains-filter (λ b. not (b == a)) f.assumptions b).1 (old.0, not_from a (b, d) l.1),
+          old.1,
+        );
     numbers_rise = ok.form.numbers_rise;
     rules_are = λ r h. let old = ok.form.rules_are r h in
         still_rule f (aba_without_assumption f a) r refl (omega arith)
@@ -116,21 +137,20 @@ without_assumption_form f a ok = record {
   rules = ok.rules;
 }
 
-with_contrary_fits : (f : Aba) (a c : ℕ) → IsNumberedAba f → Contains f.assumptions a → c ≤ f.atoms
-    → IsNumberedAba (aba_with_contrary f a c)
-with_contrary_fits f a c ok there bound = record {
+-- ---- contraries
+
+-- a framework with other pairs of an assumption and an atom
+with_contraries_form : (f : Aba) (ps : List (ℕ × ℕ)) → IsNumberedAba f → AllPairs IsPairBefore ps
+    → AreContraries f.atoms f.assumptions ps → IsNumberedAba (aba_of f.atoms f.assumptions ps f.rules f.next)
+with_contraries_form f ps ok rise are = record {
   form = record {
     assumptions_rise = ok.form.assumptions_rise;
     assumptions_are = ok.form.assumptions_are;
-    one_contrary = firsts_with a c f.contraries ∙ ap (with_number a) ok.form.one_contrary
-        ∙ with_member a f.assumptions ok.form.assumptions_rise there;
-    contraries_are = λ b d h. ⊎_elim
-        (λ l. ok.form.contraries_are b d ((without_contrary_members a f.contraries (b, d)).0 l).0)
-        (λ (e : (b, d) ≡ (a, c)). subst (λ n. n ≤ f.atoms) (sym (ap (λ p. p.1) e)) bound)
-        ((with_contrary_members a c f.contraries (b, d)).0 h);
+    contraries_rise = rise;
+    contraries_are = are;
     numbers_rise = ok.form.numbers_rise;
     rules_are = λ r h. let old = ok.form.rules_are r h in
-        still_rule f (aba_with_contrary f a c) r refl (omega arith) old.flat old;
+        still_rule f (aba_of f.atoms f.assumptions ps f.rules f.next) r refl (omega arith) old.flat old;
     next_is = ok.form.next_is;
   };
   atoms = ok.atoms;
@@ -141,8 +161,33 @@ pub with_contrary_form : (f : Aba) (a c : ℕ) → IsNumberedAba f → NoneStand
     → IsNumberedAba (aba_with_contrary f a c)
 with_contrary_form f a c ok none =
     let h = each_passes (contrary_set f a c).refusals none in
-    with_contrary_fits f a c ok (number_there f.assumptions a (not-false (has_number f.assumptions a) h.1.1.0))
-    (in_range 0 f.atoms c h.1.0).1
+    let there = number_there f.assumptions a (not-false (has_number f.assumptions a) h.1.1.0) in
+    with_contraries_form f (with_contrary a c f.contraries) ok
+    (with_contrary_rises a c f.contraries ok.form.contraries_rise) (λ b d m. ⊎_elim
+    (λ l. ok.form.contraries_are b d ((without_contrary_members a f.contraries (b, d)).0 l).0)
+    (λ (e : ((b, d) ≡ (a, c)) × (c ≢ 0)). (
+      subst (Contains f.assumptions) (sym (ap (λ p. p.0) e.0)) there,
+      contrary_is f.atoms c d (in_range 0 f.atoms c h.1.0).1 e.1 (ap (λ p. p.1) e.0),
+    ))
+    ((with_contrary_members a c f.contraries (b, d)).0 m))
+
+pub with_pair_form : (f : Aba) (a c : ℕ) → IsNumberedAba f → NoneStands (contrary_added f a c).refusals
+    → IsNumberedAba (aba_with_pair f a c)
+with_pair_form f a c ok none =
+    let h = each_passes (contrary_added f a c).refusals none in
+    let there = number_there f.assumptions a (not-false (has_number f.assumptions a) h.1.1.0) in
+    with_contraries_form f (with_pair (a, c) f.contraries) ok
+    (with_pair_rises (a, c) f.contraries ok.form.contraries_rise) (λ b d m. ⊎_elim (λ l. ok.form.contraries_are b d l)
+    (λ (e : (b, d) ≡ (a, c)). (
+      subst (Contains f.assumptions) (sym (ap (λ p. p.0) e)) there,
+      subst (IsAtom f.atoms) (sym (ap (λ p. p.1) e)) (is_atom f.atoms c h.1.0),
+    ))
+    ((with_pair_members (a, c) f.contraries (b, d)).0 m))
+
+pub without_pair_form : (f : Aba) (a c : ℕ) → IsNumberedAba f → IsNumberedAba (aba_without_pair f a c)
+without_pair_form f a c ok = with_contraries_form f (without_pair (a, c) f.contraries) ok
+    (without_pair_rises (a, c) f.contraries ok.form.contraries_rise)
+    (λ b d m. ok.form.contraries_are b d ((without_pair_members (a, c) f.contraries (b, d)).0 m).0)
 
 -- ---- rules
 
@@ -191,7 +236,7 @@ with_rule_form f h body ok none = record {
   form = record {
     assumptions_rise = ok.form.assumptions_rise;
     assumptions_are = ok.form.assumptions_are;
-    one_contrary = ok.form.one_contrary;
+    contraries_rise = ok.form.contraries_rise;
     contraries_are = ok.form.contraries_are;
     numbers_rise = numbers_with f h body ok;
     rules_are = λ r c. ⊎_elim (λ d. old r d) (λ (e : next_rule f h body ≡ r). subst (IsRuleOf behind) e new)
@@ -226,7 +271,7 @@ without_rule_form f n ok = record {
   form = record {
     assumptions_rise = ok.form.assumptions_rise;
     assumptions_are = ok.form.assumptions_are;
-    one_contrary = ok.form.one_contrary;
+    contraries_rise = ok.form.contraries_rise;
     contraries_are = ok.form.contraries_are;
     numbers_rise = subst IsStrictlyIncreasing (filter-map (λ (r : Rule). r.number) (λ m. not (m == n)) f.rules)
         (IsStrictlyIncreasing-filter (λ m. not (m == n)) (numbers_of f.rules) ok.form.numbers_rise);

@@ -1,12 +1,12 @@
 -- What the framework behind each edit is made of.
 use Rattle.std.proofs.Common.{◌≡◌, ◌+◌, ℕ, not, List, [], ◌∷◌, ◌++◌, length, ap, subst, ◌∙◌, map, filter}
-use Rattle.std.specs.Prelude.{Contains, ◌⊎◌, ◌==◌}
+use Rattle.std.specs.Prelude.{Contains, ◌⊎◌, ◌↔◌, ◌==◌}
 use Rattle.lists.specs.Members.{IsSetOf}
 use Rattle.semantics.specs.AbaFrameworks.{Aba, IsNumberedAba}
 use Rattle.aba_notions.specs.declared.rule_table.RuleLists.{RuleLists}
 use Rattle.edit_rules.proofs.NumberLists.{joined_number, equal_members}
-use Rattle.edit_rules.specs.AbaEdits.{next_rule, rules_but, without_contrary}
-use Rattle.edit_rules.specs.AbaEdits.{aba_with_assumption, aba_without_assumption, aba_with_contrary, aba_with_rule, aba_without_rule}
+use Rattle.edit_rules.specs.AbaEdits.{next_rule, pair_of, rules_but, with_contrary, without_contrary}
+use Rattle.edit_rules.specs.AbaEdits.{aba_with_assumption, aba_without_assumption, aba_with_rule, aba_without_rule}
 use Rattle.edit_rules.specs.Parts.{AreListsOf}
 use Rattle.edit_rules.proofs.ContraryLists.{pushed_contrary}
 use Rattle.edit_rules.proofs.AbaRowForms.{all_rules, in_order_members}
@@ -17,20 +17,21 @@ pub all_lists : (f : Aba) (lists : RuleLists) → IsNumberedAba f → AreListsOf
     → AreListsOf f.rules lists
 all_lists f lists ok h = subst (λ rs. AreListsOf rs lists) (all_rules f ok) h
 
--- pairs in which a has a contrary, of a copy of the pairs before
-with_pair : (a c : ℕ) (ps copy made : List (ℕ × ℕ)) → copy ≡ ps → made ≡ without_contrary a copy ++ (a, c) ∷ []
-    → made ≡ without_contrary a ps ++ (a, c) ∷ []
-with_pair a c ps copy made e is = is ∙ ap (λ qs. without_contrary a qs ++ (a, c) ∷ []) e
+-- pairs in which a has one contrary or none, of a copy of the pairs before
+pub set_members : (a c : ℕ) (ps copy made : List (ℕ × ℕ)) → copy ≡ ps → made ≡ without_contrary a copy ++ pair_of a c
+    → (p : ℕ × ℕ) → Contains made p ↔ Contains (with_contrary a c ps) p
+set_members a c ps copy made e is =
+    pushed_contrary a c ps made (is ∙ ap (λ qs. without_contrary a qs ++ pair_of a c) e)
 
 pub parts_with_assumption : (f : Aba) (a c atoms next : ℕ) (copy more : List ℕ) (pairs made : List (ℕ × ℕ))
     (lists : RuleLists) → IsNumberedAba f → atoms ≡ f.atoms → copy ≡ f.assumptions
     → IsSetOf (λ y. Contains copy y ⊎ (y ≡ a)) more → pairs ≡ f.contraries
-    → made ≡ without_contrary a pairs ++ (a, c) ∷ [] → AreListsOf (rules_but 0 f.rules) lists → next ≡ f.next
+    → made ≡ without_contrary a pairs ++ pair_of a c → AreListsOf (rules_but 0 f.rules) lists → next ≡ f.next
     → ArePartsOf (aba_with_assumption f a c) atoms more made lists next
 parts_with_assumption f a c atoms next copy more pairs made lists ok atoms_are same set of_f is rules next_is = record {
   atoms_are = atoms_are;
   assumptions_are = joined_number f.assumptions copy more a same ok.form.assumptions_rise set;
-  contraries_are = pushed_contrary a c f.contraries made (with_pair a c f.contraries pairs made of_f is);
+  contraries_are = set_members a c f.contraries pairs made of_f is;
   rules_are = all_lists f lists ok rules;
   next_is = next_is;
 }
@@ -48,18 +49,6 @@ parts_without_assumption f a atoms next assumptions kept pairs made lists ok ato
       rules_are = all_lists f lists ok rules;
       next_is = next_is;
     }
-
-pub parts_with_contrary : (f : Aba) (a c atoms next : ℕ) (copy : List ℕ) (pairs made : List (ℕ × ℕ))
-    (lists : RuleLists) → IsNumberedAba f → atoms ≡ f.atoms → copy ≡ f.assumptions → pairs ≡ f.contraries
-    → made ≡ without_contrary a pairs ++ (a, c) ∷ [] → AreListsOf (rules_but 0 f.rules) lists → next ≡ f.next
-    → ArePartsOf (aba_with_contrary f a c) atoms copy made lists next
-parts_with_contrary f a c atoms next copy pairs made lists ok atoms_are same of_f is rules next_is = record {
-  atoms_are = atoms_are;
-  assumptions_are = same;
-  contraries_are = pushed_contrary a c f.contraries made (with_pair a c f.contraries pairs made of_f is);
-  rules_are = all_lists f lists ok rules;
-  next_is = next_is;
-}
 
 pub parts_with_rule : (f : Aba) (h : ℕ) (body : List ℕ) (number atoms next : ℕ) (copy : List ℕ) (pairs : List (ℕ × ℕ))
     (old new : RuleLists) → IsNumberedAba f → atoms ≡ f.atoms → copy ≡ f.assumptions → pairs ≡ f.contraries

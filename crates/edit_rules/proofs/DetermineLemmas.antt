@@ -1,64 +1,54 @@
 -- What the framework and the effect behind an edit tell of the framework before.
 use Rattle.std.proofs.Common.{Ok, ◌≡◌, ◌<◌, ◌+◌, ℕ, not, List, [], ◌∷◌, ◌++◌, length, take, sym, ap, subst, ◌∙◌, arith, ⊎_elim, inl, false, refl}
-use Rattle.std.specs.Prelude.{Contains, ◌==◌, is_ok}
-use Rattle.std.specs.List.Sorted.{IsStrictlyIncreasing}
+use Rattle.std.specs.Prelude.{Contains, ◌↔◌, ◌≢◌, ◌==◌, is_ok}
 use Rattle.std.proofs.lemmas.Bool.{false≢true, cases_eq, eqb-true, not-false}
 use Rattle.std.proofs.Math.Seq.{take-append_seam}
 use Rattle.std.proofs.lemmas.List.{length_push}
 use Rattle.semantics.specs.Rules.{Rule}
 use Rattle.semantics.specs.AbaFrameworks.{Aba, IsNumberedAba}
+use Rattle.aba_notions.specs.Storage.{aba_of}
 use Rattle.edit_rules.specs.declared.edit.Edit.{Edit}
-use Rattle.edit_rules.specs.declared.edit.Edit.TheVariants.{ArgAdd, ArgDrop, AttackAdd, AttackDrop, AsmAdd, AsmDrop, ConSet, RuleAdd, RuleDrop}
+use Rattle.edit_rules.specs.declared.edit.Edit.TheVariants.{ArgAdd, ArgDrop, AttackAdd, AttackDrop, AsmAdd, AsmDrop, ConSet, ConAdd, ConDrop, RuleAdd, RuleDrop}
 use Rattle.edit_rules.specs.declared.effect.Effect.{Effect}
 use Rattle.edit_rules.specs.Numbers.{has_number}
 use Rattle.edit_rules.proofs.EditWordTests.{absent, number_there, same_pair}
 use Rattle.edit_rules.proofs.NumberLists.{from_parts, without_number}
 use Rattle.edit_rules.specs.Refusals.{NoneStands}
-use Rattle.edit_rules.specs.AbaEdits.{AbaRow, aba_outcome, aba_row_outcome, contrary_of, next_rule, numbers_of}
-use Rattle.edit_rules.specs.AbaEdits.{rule_numbered, second_in, with_contrary, without_contrary}
-use Rattle.edit_rules.specs.AbaEdits.{aba_with_assumption, aba_without_assumption, aba_with_contrary, aba_with_rule, aba_without_rule}
-use Rattle.edit_rules.specs.AbaEdits.{assumption_added, assumption_dropped, contrary_set, rule_added, rule_dropped}
+use Rattle.edit_rules.specs.Pairs.{has_pair, with_pair, without_pair}
+use Rattle.edit_rules.specs.AbaEdits.{AbaRow, aba_outcome, aba_row_outcome, contraries_of, next_rule, numbers_of}
+use Rattle.edit_rules.specs.AbaEdits.{rule_numbered, with_contrary, without_contrary}
+use Rattle.edit_rules.specs.AbaEdits.{aba_with_assumption, aba_without_assumption, aba_with_contrary}
+use Rattle.edit_rules.specs.AbaEdits.{aba_with_pair, aba_without_pair, aba_with_rule, aba_without_rule}
+use Rattle.edit_rules.specs.AbaEdits.{assumption_added, assumption_dropped, contrary_set}
+use Rattle.edit_rules.specs.AbaEdits.{contrary_added, contrary_dropped, rule_added, rule_dropped}
 use Rattle.edit_rules.proofs.RefusalLemmas.{done_row, each_passes}
-use Rattle.edit_rules.proofs.ContraryLists.{with_contrary_members, without_contrary_members}
+use Rattle.edit_rules.proofs.ContraryLists.{contraries_of_members, with_contrary_members, without_contrary_members}
+use Rattle.edit_rules.proofs.EditTests.{pair_there}
+use Rattle.edit_rules.proofs.PairLists.{before_gain, before_loss}
 use Rattle.edit_rules.proofs.MadeFrameworks.{keys_asymmetric, same_aba, same_contraries, same_rule}
-use Rattle.edit_rules.proofs.RuleLists.{find_one, numbered_is}
-use Rattle.lists.proofs.RisingLists.{same_lists, same_item, keys_rise, same_rising}
-use Rattle.lists.proofs.Images.{image_there, image_from}
+use Rattle.edit_rules.proofs.RuleLists.{numbered_is}
+use Rattle.lists.proofs.RisingLists.{same_lists, keys_rise, same_rising}
+use Rattle.lists.proofs.Images.{image_from}
 
 -- ---- contraries
 
-pub contrary_is : (f : Aba) (a c : ℕ) → IsNumberedAba f → Contains f.contraries (a, c) → contrary_of f.contraries a ≡ c
-contrary_is f a c ok h = ap second_in (find_one (λ (p : ℕ × ℕ). p.0) f.contraries (a, c) a
-    (λ q d is. same_item (λ (p : ℕ × ℕ). p.0) f.contraries q (a, c)
-    (subst IsStrictlyIncreasing (sym ok.form.one_contrary) ok.form.assumptions_rise) d h is) h refl)
-
-pub contrary_there : (f : Aba) (a : ℕ) → IsNumberedAba f → Contains f.assumptions a
-    → Contains f.contraries (a, contrary_of f.contraries a)
-contrary_there f a ok c =
-    let from = image_from (λ (p : ℕ × ℕ). p.0) f.contraries a
-    (subst (λ xs. Contains xs a) (sym ok.form.one_contrary) c) in
-    let here : Contains f.contraries (a, from.0.1) = subst (λ x. Contains f.contraries (x, from.0.1)) from.2 from.1 in
-    subst (λ d. Contains f.contraries (a, d)) (sym (contrary_is f a from.0.1 ok here)) here
-
 of_assumption : (f : Aba) (p : ℕ × ℕ) → IsNumberedAba f → Contains f.contraries p → Contains f.assumptions p.0
-of_assumption f p ok c =
-    subst (λ xs. Contains xs p.0) ok.form.one_contrary (image_there (λ (q : ℕ × ℕ). q.0) f.contraries p c)
+of_assumption f p ok c = (ok.form.contraries_are p.0 p.1 c).0
 
--- the pair that the effect tells
-told_pair : (f g : Aba) (a : ℕ) → IsNumberedAba f → IsNumberedAba g → Contains g.assumptions a
-    → contrary_of f.contraries a ≡ contrary_of g.contraries a → (p : ℕ × ℕ) → Contains f.contraries p → p.0 ≡ a
-    → Contains g.contraries p
-told_pair f g a ok ko there gone p c e =
-    let mine : contrary_of f.contraries a ≡ p.1 = ap (contrary_of f.contraries) (sym e) ∙ contrary_is f p.0 p.1 ok c in
-    subst (Contains g.contraries) (sym (same_pair p (a, contrary_of g.contraries a) e (sym mine ∙ gone)))
-    (contrary_there g a ko there)
+-- a pair that the effect tells
+told_pair : (a : ℕ) (ps qs : List (ℕ × ℕ)) → contraries_of ps a ≡ contraries_of qs a → (p : ℕ × ℕ) → Contains ps p
+    → p.0 ≡ a → Contains qs p
+told_pair a ps qs gone p c e =
+    let is : p ≡ (a, p.1) = same_pair p (a, p.1) e refl in
+    subst (Contains qs) (sym is) ((contraries_of_members qs a p.1).0
+    (subst (λ zs. Contains zs p.1) gone ((contraries_of_members ps a p.1).1 (subst (Contains ps) is c))))
 
 -- a pair of another assumption
 other_pair : (a c : ℕ) (ps qs : List (ℕ × ℕ)) → with_contrary a c ps ≡ with_contrary a c qs → (p : ℕ × ℕ)
     → Contains ps p → (p.0 ≡ a → ⊥) → Contains qs p
 other_pair a c ps qs same p h never =
     ⊎_elim (λ l. ((without_contrary_members a qs p).0 l).0)
-    (λ (e : p ≡ (a, c)). absurd (never (ap (λ q. q.0) e)))
+    (λ (e : (p ≡ (a, c)) × (c ≢ 0)). absurd (never (ap (λ q. q.0) e.0)))
     ((with_contrary_members a c qs p).0 (subst (λ zs. Contains zs p) same
     ((with_contrary_members a c ps p).1 (inl ((without_contrary_members a ps p).1 (h, never))))))
 
@@ -82,25 +72,48 @@ before_add f g a c ok ko free_f free_g same =
     )))
     (ap (λ h. h.rules) same) (ap (λ h. h.next) same)
 
--- pairs of which the effect tells one, and the others stay
-told_or_kept : (f g : Aba) (a : ℕ) → IsNumberedAba f → IsNumberedAba g → Contains g.assumptions a
-    → contrary_of f.contraries a ≡ contrary_of g.contraries a
-    → ((p : ℕ × ℕ) → Contains f.contraries p → (p.0 ≡ a → ⊥) → Contains g.contraries p) → (p : ℕ × ℕ)
-    → Contains f.contraries p → Contains g.contraries p
-told_or_kept f g a ok ko there gone kept p h =
-    ⊎_elim (λ e. told_pair f g a ok ko there gone p h e) (λ never. kept p h never) (cases_eq p.0 a)
+-- pairs of which the effect tells those of one assumption, and the others stay
+told_or_kept : (a : ℕ) (ps qs : List (ℕ × ℕ)) → contraries_of ps a ≡ contraries_of qs a
+    → ((p : ℕ × ℕ) → Contains ps p → (p.0 ≡ a → ⊥) → Contains qs p) → (p : ℕ × ℕ) → Contains ps p → Contains qs p
+told_or_kept a ps qs gone kept p h =
+    ⊎_elim (λ e. told_pair a ps qs gone p h e) (λ never. kept p h never) (cases_eq p.0 a)
 
-before_set : (f g : Aba) (a c : ℕ) → IsNumberedAba f → IsNumberedAba g → Contains f.assumptions a
-    → Contains g.assumptions a → contrary_of f.contraries a ≡ contrary_of g.contraries a
-    → aba_with_contrary f a c ≡ aba_with_contrary g a c → f ≡ g
-before_set f g a c ok ko in_f in_g gone same =
-    let contraries = ap (λ h. h.contraries) same in
-    same_aba f g (ap (λ h. h.atoms) same) (ap (λ h. h.assumptions) same)
-    (same_contraries f g ok ko (λ p. (
-      told_or_kept f g a ok ko in_g gone (λ q. other_pair a c f.contraries g.contraries contraries q) p,
-      told_or_kept g f a ko ok in_f (sym gone) (λ q. other_pair a c g.contraries f.contraries (sym contraries) q) p,
-    )))
+-- frameworks that are the same beside their contraries, of which they have the same
+same_beside : (f g : Aba) (ps qs : List (ℕ × ℕ)) → IsNumberedAba f → IsNumberedAba g
+    → aba_of f.atoms f.assumptions ps f.rules f.next ≡ aba_of g.atoms g.assumptions qs g.rules g.next
+    → ((p : ℕ × ℕ) → Contains f.contraries p ↔ Contains g.contraries p) → f ≡ g
+same_beside f g ps qs ok ko same contraries =
+    same_aba f g (ap (λ h. h.atoms) same) (ap (λ h. h.assumptions) same) (same_contraries f g ok ko contraries)
     (ap (λ h. h.rules) same) (ap (λ h. h.next) same)
+
+before_set : (f g : Aba) (a c : ℕ) → IsNumberedAba f → IsNumberedAba g
+    → contraries_of f.contraries a ≡ contraries_of g.contraries a
+    → aba_with_contrary f a c ≡ aba_with_contrary g a c → f ≡ g
+before_set f g a c ok ko gone same =
+    let contraries = ap (λ h. h.contraries) same in
+    same_beside f g (with_contrary a c f.contraries) (with_contrary a c g.contraries) ok ko same (λ p. (
+      told_or_kept a f.contraries g.contraries gone (other_pair a c f.contraries g.contraries contraries) p,
+      told_or_kept a g.contraries f.contraries (sym gone)
+          (other_pair a c g.contraries f.contraries (sym contraries)) p,
+    ))
+
+before_pair : (f g : Aba) (a c : ℕ) → IsNumberedAba f → IsNumberedAba g → has_pair f.contraries (a, c) ≡ false
+    → has_pair g.contraries (a, c) ≡ false → aba_with_pair f a c ≡ aba_with_pair g a c → f ≡ g
+before_pair f g a c ok ko free_f free_g same =
+    let contraries = ap (λ h. h.contraries) same in
+    same_beside f g (with_pair (a, c) f.contraries) (with_pair (a, c) g.contraries) ok ko same (λ p. (
+      before_gain (a, c) f.contraries g.contraries contraries free_f p,
+      before_gain (a, c) g.contraries f.contraries (sym contraries) free_g p,
+    ))
+
+before_pair_drop : (f g : Aba) (a c : ℕ) → IsNumberedAba f → IsNumberedAba g → Contains f.contraries (a, c)
+    → Contains g.contraries (a, c) → aba_without_pair f a c ≡ aba_without_pair g a c → f ≡ g
+before_pair_drop f g a c ok ko in_f in_g same =
+    let contraries = ap (λ h. h.contraries) same in
+    same_beside f g (without_pair (a, c) f.contraries) (without_pair (a, c) g.contraries) ok ko same (λ p. (
+      before_loss (a, c) f.contraries g.contraries contraries in_g p,
+      before_loss (a, c) g.contraries f.contraries (sym contraries) in_f p,
+    ))
 
 kept_pair : (a : ℕ) (ps qs : List (ℕ × ℕ)) → without_contrary a ps ≡ without_contrary a qs → (p : ℕ × ℕ)
     → Contains ps p → (p.0 ≡ a → ⊥) → Contains qs p
@@ -109,7 +122,7 @@ kept_pair a ps qs same p h never =
     ((without_contrary_members a ps p).1 (h, never)))).0
 
 before_drop : (f g : Aba) (a : ℕ) → IsNumberedAba f → IsNumberedAba g → Contains f.assumptions a
-    → Contains g.assumptions a → contrary_of f.contraries a ≡ contrary_of g.contraries a
+    → Contains g.assumptions a → contraries_of f.contraries a ≡ contraries_of g.contraries a
     → aba_without_assumption f a ≡ aba_without_assumption g a → f ≡ g
 before_drop f g a ok ko in_f in_g gone same =
     let assumptions = ap (λ h. h.assumptions) same in
@@ -122,8 +135,8 @@ before_drop f g a ok ko in_f in_g gone same =
           (λ y c t. subst (Contains f.assumptions) (sym (eqb-true y a t)) in_f) x,
     )))
     (same_contraries f g ok ko (λ p. (
-      told_or_kept f g a ok ko in_g gone (kept_pair a f.contraries g.contraries contraries) p,
-      told_or_kept g f a ko ok in_f (sym gone) (kept_pair a g.contraries f.contraries (sym contraries)) p,
+      told_or_kept a f.contraries g.contraries gone (kept_pair a f.contraries g.contraries contraries) p,
+      told_or_kept a g.contraries f.contraries (sym gone) (kept_pair a g.contraries f.contraries (sym contraries)) p,
     )))
     (ap (λ h. h.rules) same) (ap (λ h. h.next) same)
 
@@ -209,9 +222,18 @@ determined f g (AsmDrop a) done ok ko of_f of_g =
     (ap (λ e. e.gone) are.effects) are.frameworks
 determined f g (ConSet a c) done ok ko of_f of_g =
     let are = both (contrary_set f a c) (contrary_set g a c) done of_f of_g in
-    before_set f g a c ok ko (there f.assumptions a (each_passes (contrary_set f a c).refusals are.first).1.1.0)
-    (there g.assumptions a (each_passes (contrary_set g a c).refusals are.second).1.1.0)
-    (ap (λ e. e.gone) are.effects) are.frameworks
+    before_set f g a c ok ko (ap (λ e. e.gone) are.effects) are.frameworks
+determined f g (ConAdd a c) done ok ko of_f of_g =
+    let are = both (contrary_added f a c) (contrary_added g a c) done of_f of_g in
+    before_pair f g a c ok ko (each_passes (contrary_added f a c).refusals are.first).1.1.1.0
+    (each_passes (contrary_added g a c).refusals are.second).1.1.1.0 are.frameworks
+determined f g (ConDrop a c) done ok ko of_f of_g =
+    let are = both (contrary_dropped f a c) (contrary_dropped g a c) done of_f of_g in
+    before_pair_drop f g a c ok ko
+    (pair_there f.contraries (a, c) (not-false (has_pair f.contraries (a, c))
+    (each_passes (contrary_dropped f a c).refusals are.first).1.1.1.0))
+    (pair_there g.contraries (a, c) (not-false (has_pair g.contraries (a, c))
+    (each_passes (contrary_dropped g a c).refusals are.second).1.1.1.0)) are.frameworks
 determined f g (RuleAdd h body) done ok ko of_f of_g =
     before_rule f g h body (both (rule_added f h body) (rule_added g h body) done of_f of_g).frameworks
 determined f g (RuleDrop n) done ok ko of_f of_g =

@@ -10,7 +10,7 @@ use Rattle.semantics.specs.declared.argument.TheConstants.{MAX_ARGUMENT}
 use Rattle.semantics.specs.Framework.{IsPairBefore}
 use Rattle.edit_rules.proofs.EditWordTests.{both_gives, either_gives, either_left}
 use Rattle.edit_rules.proofs.EditWordTests.{is_false, same_pair}
-use Rattle.edit_rules.specs.Edits.{has_pair, is_before}
+use Rattle.edit_rules.specs.Pairs.{has_pair, is_before}
 use Rattle.lists.proofs.TruthValues.{both_from, either_right}
 
 pub pair_there : (ps : List (ℕ × ℕ)) (p : ℕ × ℕ) → has_pair ps p ≡ true → Contains ps p

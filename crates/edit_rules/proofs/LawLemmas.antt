@@ -4,13 +4,14 @@ use Rattle.std.specs.Prelude.{is_ok}
 use Rattle.std.proofs.lemmas.Bool.{false≢true}
 use Rattle.semantics.specs.AbaFrameworks.{Aba, IsNumberedAba}
 use Rattle.edit_rules.specs.declared.edit.Edit.{Edit}
-use Rattle.edit_rules.specs.declared.edit.Edit.TheVariants.{ArgAdd, ArgDrop, AttackAdd, AttackDrop, AsmAdd, AsmDrop, ConSet, RuleAdd, RuleDrop}
+use Rattle.edit_rules.specs.declared.edit.Edit.TheVariants.{ArgAdd, ArgDrop, AttackAdd, AttackDrop, AsmAdd, AsmDrop, ConSet, ConAdd, ConDrop, RuleAdd, RuleDrop}
 use Rattle.edit_rules.specs.declared.effect.Effect.{Effect}
 use Rattle.edit_rules.specs.Refusals.{NoneStands}
 use Rattle.edit_rules.specs.AbaEdits.{AbaRow, aba_outcome, aba_row_outcome}
-use Rattle.edit_rules.specs.AbaEdits.{assumption_added, assumption_dropped, contrary_set, rule_added, rule_dropped}
+use Rattle.edit_rules.specs.AbaEdits.{assumption_added, assumption_dropped, contrary_set, contrary_added, contrary_dropped, rule_added, rule_dropped}
 use Rattle.edit_rules.proofs.RefusalLemmas.{done_row}
-use Rattle.edit_rules.proofs.AbaRowForms.{with_assumption_form, without_assumption_form, with_contrary_form, with_rule_form, without_rule_form}
+use Rattle.edit_rules.proofs.AbaRowForms.{with_assumption_form, without_assumption_form, with_contrary_form}
+use Rattle.edit_rules.proofs.AbaRowForms.{with_pair_form, without_pair_form, with_rule_form, without_rule_form}
 
 -- what holds of the framework of a row of which no refusal stands holds behind the edit
 behind_row : (P : Aba → Type 0) (row : AbaRow) (g : Aba) (effect : Effect) → aba_row_outcome row ≡ Ok (g, effect)
@@ -31,6 +32,10 @@ keeps_form f g (AsmDrop a) effect ok is =
     behind_row IsNumberedAba (assumption_dropped f a) g effect is (λ none. without_assumption_form f a ok)
 keeps_form f g (ConSet a c) effect ok is =
     behind_row IsNumberedAba (contrary_set f a c) g effect is (λ none. with_contrary_form f a c ok none)
+keeps_form f g (ConAdd a c) effect ok is =
+    behind_row IsNumberedAba (contrary_added f a c) g effect is (λ none. with_pair_form f a c ok none)
+keeps_form f g (ConDrop a c) effect ok is =
+    behind_row IsNumberedAba (contrary_dropped f a c) g effect is (λ none. without_pair_form f a c ok)
 keeps_form f g (RuleAdd h body) effect ok is =
     behind_row IsNumberedAba (rule_added f h body) g effect is (λ none. with_rule_form f h body ok none)
 keeps_form f g (RuleDrop r) effect ok is =
@@ -47,6 +52,10 @@ given_once f g (AsmDrop a) effect is =
     behind_row (λ h. f.next ≤ h.next) (assumption_dropped f a) g effect is (λ none. omega arith)
 given_once f g (ConSet a c) effect is =
     behind_row (λ h. f.next ≤ h.next) (contrary_set f a c) g effect is (λ none. omega arith)
+given_once f g (ConAdd a c) effect is =
+    behind_row (λ h. f.next ≤ h.next) (contrary_added f a c) g effect is (λ none. omega arith)
+given_once f g (ConDrop a c) effect is =
+    behind_row (λ h. f.next ≤ h.next) (contrary_dropped f a c) g effect is (λ none. omega arith)
 given_once f g (RuleAdd h body) effect is =
     behind_row (λ h. f.next ≤ h.next) (rule_added f h body) g effect is (λ none. omega arith)
 given_once f g (RuleDrop r) effect is =

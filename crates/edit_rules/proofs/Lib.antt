@@ -1,5 +1,6 @@
 pub mod SameFrameworks
 pub mod EditTests
+pub mod PairLists
 pub mod RowForms
 pub mod RowOutcomes
 pub mod AbaOutcomes

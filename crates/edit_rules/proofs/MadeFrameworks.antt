@@ -1,8 +1,7 @@
 -- A framework that is made of the flat lists of another's parts is that one.
-use Rattle.std.proofs.Common.{◌≡◌, ◌<◌, ◌≤◌, ℕ, List, Result, Ok, Err, IfOk, length, get_or, refl, ap, sym, subst}
+use Rattle.std.proofs.Common.{◌≡◌, ◌<◌, ◌≤◌, ℕ, List, Result, Ok, Err, IfOk, length, get_or, ap, sym, subst}
 use Rattle.std.proofs.Common.{◌∙◌, arith}
 use Rattle.std.specs.Prelude.{Contains, ◌↔◌}
-use Rattle.std.specs.List.{AllPairs}
 use Rattle.std.specs.List.Sorted.{IsStrictlyIncreasing}
 use Rattle.std.proofs.lemmas.List.{ext_get_or, get_or-map, length-map}
 use Rattle.std.proofs.lemmas.List.Elements.{Contains-get_or}
@@ -10,12 +9,14 @@ use Rattle.semantics.specs.declared.numbers.TheConstants.{MAX_RULE}
 use Rattle.semantics.specs.Rules.{Rule}
 use Rattle.semantics.specs.AbaFrameworks.{Aba, IsAtom, IsNumberedAba}
 use Rattle.aba_notions.specs.declared.rule_table.RuleLists.{RuleLists}
-use Rattle.aba_notions.specs.Storage.{AreParts, AreContraries, AreRuleLists, AreRulesOf, no_rule, rule_at}
+use Rattle.aba_notions.specs.Storage.{AreParts, AreContraries, AreRuleLists, AreRulesOf, aba_of, no_rule, rule_at}
 use Rattle.aba_notions.proofs.TableLemmas.{rising_few}
 use Rattle.edit_rules.specs.AbaEdits.{heads_of, numbers_of}
-use Rattle.edit_rules.specs.Parts.{AreListsOf}
-use Rattle.lists.proofs.RisingLists.{IsAsymmetric, same_lists, same_item, keys_rise, same_rising}
-use Rattle.lists.proofs.Images.{image_there, image_from}
+use Rattle.semantics.specs.Framework.{IsPairBefore}
+use Rattle.edit_rules.specs.Parts.{AreListsOf, HasContraries}
+use Rattle.edit_rules.proofs.RisingLists.{pairs_asymmetric}
+use Rattle.lists.proofs.RisingLists.{IsAsymmetric, same_lists, same_rising}
+use Rattle.lists.proofs.Images.{image_from}
 
 -- ---- lists with keys that rise
 
@@ -33,20 +34,10 @@ pub record ArePartsOf (f : Aba) (atoms : ℕ) (assumptions : List ℕ) (contrari
   pub rules_are : AreListsOf f.rules lists
   pub next_is : next ≡ f.next
 
-contraries_of : (f : Aba) (contraries : List (ℕ × ℕ)) → IsNumberedAba f
+-- pairs with the members of a framework's are pairs of an assumption and an atom
+pub contraries_fit : (f : Aba) (contraries : List (ℕ × ℕ)) → IsNumberedAba f
     → ((p : ℕ × ℕ) → Contains contraries p ↔ Contains f.contraries p) → AreContraries f.atoms f.assumptions contraries
-contraries_of f contraries ok same = record {
-  of_assumptions = λ a c there. let h = (same (a, c)).0 there in (
-    subst (λ xs. Contains xs a) ok.form.one_contrary (image_there (λ (p : ℕ × ℕ). p.0) f.contraries (a, c) h),
-    ok.form.contraries_are a c h,
-  );
-  some = λ a c. let from = image_from (λ (p : ℕ × ℕ). p.0) f.contraries a
-      (subst (λ xs. Contains xs a) (sym ok.form.one_contrary) c) in
-      (from.0.1, (same (a, from.0.1)).1 (subst (λ x. Contains f.contraries (x, from.0.1)) from.2 from.1));
-  one = λ a c d left right. ap (λ p. p.1) (same_item (λ (p : ℕ × ℕ). p.0) f.contraries (a, c) (a, d)
-      (subst IsStrictlyIncreasing (sym ok.form.one_contrary) ok.form.assumptions_rise)
-      ((same (a, c)).0 left) ((same (a, d)).0 right) refl);
-}
+contraries_fit f contraries ok same a c there = ok.form.contraries_are a c ((same (a, c)).0 there)
 
 rule_lists_of : (f : Aba) (lists : RuleLists) → IsNumberedAba f → AreListsOf f.rules lists
     → AreRuleLists f.atoms lists.numbers.items lists.heads.items lists.bodies.items
@@ -66,14 +57,14 @@ rule_lists_of f lists ok h = record {
 }
 
 parts_themselves : (f : Aba) (contraries : List (ℕ × ℕ)) (lists : RuleLists) → IsNumberedAba f
-    → ((p : ℕ × ℕ) → Contains contraries p ↔ Contains f.contraries p) → AreListsOf f.rules lists
+    → AreContraries f.atoms f.assumptions contraries → AreListsOf f.rules lists
     → AreParts f.atoms f.assumptions contraries lists f.next
-parts_themselves f contraries lists ok same h = record {
+parts_themselves f contraries lists ok are h = record {
   atoms_small = ok.atoms;
   next_low = ok.form.next_is;
   next_small = ok.rules;
   assumptions_are = ok.form.assumptions_are;
-  contraries_are = contraries_of f contraries ok same;
+  contraries_are = are;
   rules_are = rule_lists_of f lists ok h;
   numbers_rise = subst IsStrictlyIncreasing (sym h.numbers_are) ok.form.numbers_rise;
   numbers_are = λ n c. let from = image_from (λ (r : Rule). r.number) f.rules n
@@ -84,25 +75,29 @@ parts_themselves f contraries lists ok same h = record {
       (ok.form.rules_are from.0 from.1).flat (subst (Contains f.assumptions) (sym from.2) d);
 }
 
+pub parts_with : (f : Aba) (atoms : ℕ) (assumptions : List ℕ) (contraries : List (ℕ × ℕ)) (lists : RuleLists) (next : ℕ)
+    → IsNumberedAba f → atoms ≡ f.atoms → assumptions ≡ f.assumptions
+    → AreContraries f.atoms f.assumptions contraries → AreListsOf f.rules lists → next ≡ f.next
+    → AreParts atoms assumptions contraries lists next
+parts_with f atoms assumptions contraries lists next ok same_atoms same_assumptions are h same_next =
+    subst (λ n. AreParts n assumptions contraries lists next) (sym same_atoms)
+    (subst (λ xs. AreParts f.atoms xs contraries lists next) (sym same_assumptions)
+    (subst (λ n. AreParts f.atoms f.assumptions contraries lists n) (sym same_next)
+    (parts_themselves f contraries lists ok are h)))
+
 pub parts : (f : Aba) (atoms : ℕ) (assumptions : List ℕ) (contraries : List (ℕ × ℕ)) (lists : RuleLists) (next : ℕ)
     → IsNumberedAba f → ArePartsOf f atoms assumptions contraries lists next
     → AreParts atoms assumptions contraries lists next
 parts f atoms assumptions contraries lists next ok h =
-    subst (λ n. AreParts n assumptions contraries lists next) (sym h.atoms_are)
-    (subst (λ xs. AreParts f.atoms xs contraries lists next) (sym h.assumptions_are)
-    (subst (λ n. AreParts f.atoms f.assumptions contraries lists n) (sym h.next_is)
-    (parts_themselves f contraries lists ok h.contraries_are h.rules_are)))
+    parts_with f atoms assumptions contraries lists next ok h.atoms_are h.assumptions_are
+    (contraries_fit f contraries ok h.contraries_are) h.rules_are h.next_is
 
 -- ---- the framework that is made
 
 pub same_contraries : (f g : Aba) → IsNumberedAba f → IsNumberedAba g
     → ((p : ℕ × ℕ) → Contains f.contraries p ↔ Contains g.contraries p) → f.contraries ≡ g.contraries
-same_contraries f g ok ko same = same_lists (λ p q. p.0 < q.0) (keys_asymmetric (λ (p : ℕ × ℕ). p.0))
-    f.contraries g.contraries (rise f ok) (rise g ko) same
-  where
-    rise : (h : Aba) → IsNumberedAba h → AllPairs (λ (p q : ℕ × ℕ). p.0 < q.0) h.contraries
-    rise h fine = keys_rise (λ (p : ℕ × ℕ). p.0) h.contraries
-        (subst IsStrictlyIncreasing (sym fine.form.one_contrary) fine.form.assumptions_rise)
+same_contraries f g ok ko same = same_lists IsPairBefore pairs_asymmetric f.contraries g.contraries
+    ok.form.contraries_rise ko.form.contraries_rise same
 
 pub same_rule : (r s : Rule) → r.number ≡ s.number → r.head ≡ s.head → r.body ≡ s.body → r ≡ s
 same_rule r s n h b = λ i. record { number = n i; head = h i; body = b i }
@@ -157,6 +152,40 @@ made f atoms assumptions contraries lists next (Ok g) ok h a b c d e fine = same
     )))
     (same_rules g f lists fine ok d h.rules_are) (e ∙ h.next_is)
 made f atoms assumptions contraries lists next (Err x) ok h a b c d e fine = a
+
+-- a framework that differs from one in its contraries alone
+pub has_contraries : {E : Type 0} (f : Aba) (atoms : ℕ) (assumptions : List ℕ) (contraries : List (ℕ × ℕ))
+    (lists : RuleLists) (next : ℕ) (result : Result Aba E) → IsNumberedAba f → atoms ≡ f.atoms
+    → assumptions ≡ f.assumptions → AreListsOf f.rules lists → next ≡ f.next → IfOk result (λ g. g.atoms ≡ atoms)
+    → IfOk result (λ g. g.assumptions ≡ assumptions)
+    → IfOk result (λ g. (p : ℕ × ℕ) → Contains g.contraries p ↔ Contains contraries p)
+    → IfOk result (λ g. AreRulesOf lists.numbers.items lists.heads.items lists.bodies.items g.rules)
+    → IfOk result (λ g. g.next ≡ next) → IfOk result IsNumberedAba → IfOk result (HasContraries f contraries)
+has_contraries f atoms assumptions contraries lists next (Ok g) ok same_atoms same_assumptions h same_next a b c d e
+    fine = record {
+      atoms_are = a ∙ same_atoms;
+      assumptions_are = b ∙ same_assumptions;
+      contraries_are = c;
+      rules_are = same_rules g f lists fine ok d h;
+      next_is = e ∙ same_next;
+      form = fine;
+    }
+has_contraries f atoms assumptions contraries lists next (Err x) ok same_atoms same_assumptions h same_next a b c d e
+    fine = a
+
+pub made_with : {E : Type 0} (f : Aba) (contraries pairs : List (ℕ × ℕ)) (result : Result Aba E)
+    → IsNumberedAba (aba_of f.atoms f.assumptions pairs f.rules f.next)
+    → ((p : ℕ × ℕ) → Contains contraries p ↔ Contains pairs p) → IfOk result (HasContraries f contraries)
+    → IfOk result (λ g. g ≡ aba_of f.atoms f.assumptions pairs f.rules f.next)
+made_with f contraries pairs (Ok g) ok same has =
+    let h = aba_of f.atoms f.assumptions pairs f.rules f.next in
+    same_aba g h has.atoms_are has.assumptions_are
+    (same_contraries g h has.form ok (λ p. (
+      λ c. (same p).0 ((has.contraries_are p).0 c),
+      λ c. (has.contraries_are p).1 ((same p).1 c),
+    )))
+    has.rules_are has.next_is
+made_with f contraries pairs (Err x) ok same has = has
 
 -- ---- bounds
 

@@ -1,6 +1,6 @@
 -- What edits keep of a framework, and what the framework and the effect behind an edit tell of the framework before.
-use Rattle.std.proofs.Common.{Result, Ok, Err, ◌≡◌, true, false, Bool, List, [], ◌∷◌, ℕ, sym, ◌∙◌, ap, subst, refl, ⊎_elim, inl}
-use Rattle.std.specs.Prelude.{Contains, ◌==◌, ◌&&◌, ◌<◌, is_ok}
+use Rattle.std.proofs.Common.{Result, Ok, Err, ◌≡◌, true, false, Bool, List, [], ◌∷◌, ℕ, sym, ◌∙◌, ap, subst, refl}
+use Rattle.std.specs.Prelude.{Contains, ◌==◌, ◌<◌, is_ok}
 use Rattle.std.proofs.lemmas.Bool.{false≢true, cond_both, not-false, eqb-true}
 use Rattle.std.proofs.lemmas.List.Kept.{AllPairs-from_increasing}
 use Rattle.lists.proofs.Filters.{Contains-filter}
@@ -8,19 +8,21 @@ use Rattle.semantics.specs.Framework.{Af}
 use Rattle.semantics.specs.AbaFrameworks.{Aba, IsNumberedAba}
 use Rattle.semantics.specs.Frameworks.{Framework, af, aba, IsNumbered, IsNumberedAf}
 use Rattle.edit_rules.specs.declared.edit.Edit.{Edit}
-use Rattle.edit_rules.specs.declared.edit.Edit.TheVariants.{ArgAdd, ArgDrop, AttackAdd, AttackDrop, AsmAdd, AsmDrop, ConSet, RuleAdd, RuleDrop}
+use Rattle.edit_rules.specs.declared.edit.Edit.TheVariants.{ArgAdd, ArgDrop, AttackAdd, AttackDrop, AsmAdd, AsmDrop, ConSet, ConAdd, ConDrop, RuleAdd, RuleDrop}
 use Rattle.edit_rules.specs.declared.effect.Effect.{Effect}
 use Rattle.edit_rules.specs.declared.effect.EditFault.{EditFault}
 use Rattle.edit_rules.specs.Numbers.{has_number}
 use Rattle.edit_rules.specs.Refusals.{Refusal, done_unless}
-use Rattle.edit_rules.specs.Edits.{edit_outcome, has_pair, is_end, with_pair, argument_added, argument_dropped, attack_added, attack_dropped}
+use Rattle.edit_rules.specs.Edits.{edit_outcome, is_end, argument_added, argument_dropped, attack_added, attack_dropped}
+use Rattle.edit_rules.specs.Pairs.{has_pair}
 use Rattle.edit_rules.specs.Kinds.{kind_of}
 use Rattle.edit_rules.specs.Replay.{after_edit, left_by, replay}
-use Rattle.edit_rules.proofs.EditWordTests.{absent, both_gives, same_pair, number_there}
-use Rattle.edit_rules.proofs.EditTests.{pair_there, there_pair, within_bounds}
+use Rattle.edit_rules.proofs.EditWordTests.{absent, number_there}
+use Rattle.edit_rules.proofs.EditTests.{pair_there, within_bounds}
 use Rattle.edit_rules.proofs.NumberLists.{equal_members, from_parts, without_number}
 use Rattle.edit_rules.proofs.RefusalLemmas.{EachPasses, done_passes}
-use Rattle.edit_rules.proofs.RowForms.{with_argument_form, without_argument_form, with_attack_form, without_attack_form, with_pair_members}
+use Rattle.edit_rules.proofs.RowForms.{with_argument_form, without_argument_form, with_attack_form, without_attack_form}
+use Rattle.edit_rules.proofs.PairLists.{before_gain, before_loss}
 use Rattle.edit_rules.proofs.SameFrameworks.{same_framework}
 use Rattle.edit_rules.proofs.AbaOutcomes.{any_outcome, aba_edit_outcome}
 use Rattle.edit_rules.specs.AbaEdits.{aba_outcome}
@@ -57,6 +59,8 @@ after_edit_form f (AttackDrop b a) ok =
 after_edit_form f (AsmAdd a c) ok = ok
 after_edit_form f (AsmDrop a) ok = ok
 after_edit_form f (ConSet a c) ok = ok
+after_edit_form f (ConAdd a c) ok = ok
+after_edit_form f (ConDrop a c) ok = ok
 after_edit_form f (RuleAdd h body) ok = ok
 after_edit_form f (RuleDrop r) ok = ok
 
@@ -79,24 +83,6 @@ after_any_edit_form (aba f) edit ok = after_aba_edit_form f edit ok
 pub edits_keep : (f : Framework) (edits : List Edit) → IsNumbered f → IsNumbered (replay f edits)
 edits_keep f [] ok = ok
 edits_keep f (edit ∷ more) ok = edits_keep (after_edit f edit) more (after_any_edit_form f edit ok)
-
--- a test for one pair, and a member of which it is true
-abbrev is_pair : ℕ → ℕ → ℕ × ℕ → Bool
-is_pair b a p = p.0 == b && p.1 == a
-
-the_pair : (b a : ℕ) (ps qs : List (ℕ × ℕ)) → Contains qs (b, a) → (q : ℕ × ℕ) → Contains ps q → is_pair b a q ≡ true
-    → Contains qs q
-the_pair b a ps qs there q c t =
-    let both = both_gives (q.0 == b) (q.1 == a) t in
-    subst (λ z. Contains qs z) (sym (same_pair q (b, a) (eqb-true q.0 b both.0) (eqb-true q.1 a both.1))) there
-
--- a pair that wasn't there goes again
-without_pair : (p : ℕ × ℕ) (ps qs : List (ℕ × ℕ)) → with_pair p ps ≡ with_pair p qs → has_pair ps p ≡ false
-    → (q : ℕ × ℕ) → Contains ps q → Contains qs q
-without_pair p ps qs same free q c =
-    ⊎_elim (λ h. h)
-    (λ (e : q ≡ p). absurd (false≢true (sym free ∙ there_pair ps p (subst (λ z. Contains ps z) e c))))
-    ((with_pair_members p qs q).0 (subst (λ zs. Contains zs q) same ((with_pair_members p ps q).1 (inl c))))
 
 -- the abstract framework that a framework is, or one without arguments
 abbrev pub af_of : Framework → Af
@@ -147,8 +133,8 @@ determined f g (AttackAdd b a) done ok ko of_f of_g =
     let same = ap (λ d. af_of d.0) (x.1 ∙ sym y.1) in
     let attacks = ap (λ h. h.attacks) same in
     same_framework f g ok.form ko.form (ap (λ h. h.live) same) (λ p. (
-      without_pair (b, a) f.attacks g.attacks attacks x.0.1.1.1.1.0 p,
-      without_pair (b, a) g.attacks f.attacks (sym attacks) y.0.1.1.1.1.0 p,
+      before_gain (b, a) f.attacks g.attacks attacks x.0.1.1.1.1.0 p,
+      before_gain (b, a) g.attacks f.attacks (sym attacks) y.0.1.1.1.1.0 p,
     ))
 determined f g (AttackDrop b a) done ok ko of_f of_g =
     let row = attack_dropped f b a in let wor = attack_dropped g b a in
@@ -157,14 +143,16 @@ determined f g (AttackDrop b a) done ok ko of_f of_g =
     let same = ap (λ d. af_of d.0) (x.1 ∙ sym y.1) in
     let kept = ap (λ h. h.attacks) same in
     same_framework f g ok.form ko.form (ap (λ h. h.live) same) (λ p. (
-      from_parts (is_pair b a) f.attacks g.attacks kept (the_pair b a f.attacks g.attacks
-          (pair_there g.attacks (b, a) (not-false (has_pair g.attacks (b, a)) y.0.1.1.1.1.0))) p,
-      from_parts (is_pair b a) g.attacks f.attacks (sym kept) (the_pair b a g.attacks f.attacks
-          (pair_there f.attacks (b, a) (not-false (has_pair f.attacks (b, a)) x.0.1.1.1.1.0))) p,
+      before_loss (b, a) f.attacks g.attacks kept
+          (pair_there g.attacks (b, a) (not-false (has_pair g.attacks (b, a)) y.0.1.1.1.1.0)) p,
+      before_loss (b, a) g.attacks f.attacks (sym kept)
+          (pair_there f.attacks (b, a) (not-false (has_pair f.attacks (b, a)) x.0.1.1.1.1.0)) p,
     ))
 determined f g (AsmAdd a c) done ok ko of_f of_g = absurd (false≢true (ap is_ok of_f))
 determined f g (AsmDrop a) done ok ko of_f of_g = absurd (false≢true (ap is_ok of_f))
 determined f g (ConSet a c) done ok ko of_f of_g = absurd (false≢true (ap is_ok of_f))
+determined f g (ConAdd a c) done ok ko of_f of_g = absurd (false≢true (ap is_ok of_f))
+determined f g (ConDrop a c) done ok ko of_f of_g = absurd (false≢true (ap is_ok of_f))
 determined f g (RuleAdd h body) done ok ko of_f of_g = absurd (false≢true (ap is_ok of_f))
 determined f g (RuleDrop r) done ok ko of_f of_g = absurd (false≢true (ap is_ok of_f))
 
@@ -192,6 +180,8 @@ af_stays f (AttackDrop b a) done is =
 af_stays f (AsmAdd a c) done is = absurd (false≢true (ap is_ok is))
 af_stays f (AsmDrop a) done is = absurd (false≢true (ap is_ok is))
 af_stays f (ConSet a c) done is = absurd (false≢true (ap is_ok is))
+af_stays f (ConAdd a c) done is = absurd (false≢true (ap is_ok is))
+af_stays f (ConDrop a c) done is = absurd (false≢true (ap is_ok is))
 af_stays f (RuleAdd h body) done is = absurd (false≢true (ap is_ok is))
 af_stays f (RuleDrop r) done is = absurd (false≢true (ap is_ok is))
 

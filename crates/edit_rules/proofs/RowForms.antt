@@ -1,54 +1,17 @@
 -- The frameworks behind the edits are in form, and which members their lists have.
-use Rattle.std.proofs.Common.{◌≡◌, ℕ, true, not, List, ◌∷◌, ap, sym, ◌∙◌, subst, ⊎_elim, inl, inr}
-use Rattle.std.specs.Prelude.{◌↔◌, ◌⊎◌, ◌&&◌, ◌==◌, Contains, filter}
-use Rattle.std.specs.List.{AllPairs}
+use Rattle.std.proofs.Common.{◌≡◌, ℕ, true, not, ap, sym, ◌∙◌, subst, ⊎_elim, inl}
+use Rattle.std.specs.Prelude.{◌&&◌, ◌==◌, Contains, filter}
 use Rattle.std.proofs.lemmas.Bool.{true≢false, not-true, not_from_false}
-use Rattle.std.proofs.lemmas.List.Elements.{Contains-append_cases, Contains-append_left, Contains-append_right}
 use Rattle.std.proofs.lemmas.List.Kept.{AllPairs-filter, IsStrictlyIncreasing-filter}
 use Rattle.lists.proofs.Filters.{Contains-filter}
-use Rattle.lists.proofs.Membership.{Contains-head, Contains-tail, Contains-cons_cases}
 use Rattle.semantics.specs.Arguments.{IsArgument}
 use Rattle.semantics.specs.Framework.{Af, IsPairBefore}
 use Rattle.semantics.specs.Frameworks.{IsNumberedAf}
-use Rattle.edit_rules.specs.Edits.{af_with_argument, af_with_attack, is_before, is_end, with_pair}
-use Rattle.edit_rules.proofs.RisingLists.{middle_rises, pairs_through}
+use Rattle.edit_rules.specs.Edits.{af_with_argument, af_with_attack, is_end}
+use Rattle.edit_rules.proofs.PairLists.{with_pair_members, with_pair_rises}
 use Rattle.edit_rules.proofs.NumberLists.{with_number_members, with_number_rises}
 use Rattle.edit_rules.proofs.EditWordTests.{either_left, is_false}
-use Rattle.edit_rules.proofs.EditTests.{before_true, true_before, pair_cases}
 use Rattle.lists.proofs.TruthValues.{either_right}
-
-pub with_pair_rises : (p : ℕ × ℕ) (ps : List (ℕ × ℕ)) → AllPairs IsPairBefore ps
-    → AllPairs IsPairBefore (with_pair p ps)
-with_pair_rises p ps up = middle_rises IsPairBefore pairs_through
-    (filter (λ q. is_before q p) ps) p (filter (λ q. is_before p q) ps)
-    (AllPairs-filter IsPairBefore (λ q. is_before q p) ps up)
-    (AllPairs-filter IsPairBefore (λ q. is_before p q) ps up)
-    (λ q c. before_true q p ((Contains-filter (λ q. is_before q p) ps q).0 c).1)
-    (λ q c. before_true p q ((Contains-filter (λ q. is_before p q) ps q).0 c).1)
-
-pair_joins : (p : ℕ × ℕ) (ps : List (ℕ × ℕ)) (q : ℕ × ℕ) → p ≡ q → Contains (with_pair p ps) q
-pair_joins p ps q e = Contains-append_right (filter (λ q. is_before q p) ps) (p ∷ filter (λ q. is_before p q) ps) q
-    (Contains-head p (filter (λ q. is_before p q) ps) q e)
-
-pair_stays : (p : ℕ × ℕ) (ps : List (ℕ × ℕ)) (q : ℕ × ℕ) → Contains ps q → Contains (with_pair p ps) q
-pair_stays p ps q c =
-    ⊎_elim (λ low. Contains-append_left (filter (λ q. is_before q p) ps) (p ∷ filter (λ q. is_before p q) ps) q
-    ((Contains-filter (λ q. is_before q p) ps q).1 (c, true_before q p low)))
-    (λ rest. ⊎_elim (λ (e : q ≡ p). pair_joins p ps q (sym e))
-    (λ high. Contains-append_right (filter (λ q. is_before q p) ps) (p ∷ filter (λ q. is_before p q) ps) q
-    (Contains-tail p (filter (λ q. is_before p q) ps) q
-    ((Contains-filter (λ q. is_before p q) ps q).1 (c, true_before p q high))))
-    rest) (pair_cases q p)
-
-pub with_pair_members : (p : ℕ × ℕ) (ps : List (ℕ × ℕ)) (q : ℕ × ℕ)
-    → Contains (with_pair p ps) q ↔ (Contains ps q ⊎ (q ≡ p))
-with_pair_members p ps q = (
-  λ c. ⊎_elim (λ h. inl ((Contains-filter (λ q. is_before q p) ps q).0 h).0)
-      (λ h. ⊎_elim (λ (e : p ≡ q). inr (sym e)) (λ h'. inl ((Contains-filter (λ q. is_before p q) ps q).0 h').0)
-      (Contains-cons_cases p (filter (λ q. is_before p q) ps) q h))
-      (Contains-append_cases (filter (λ q. is_before q p) ps) (p ∷ filter (λ q. is_before p q) ps) q c),
-  λ s. ⊎_elim (λ c. pair_stays p ps q c) (λ (e : q ≡ p). pair_joins p ps q (sym e)) s,
-)
 
 pub with_argument_form : (f : Af) (n : ℕ) → IsNumberedAf f → IsArgument n
     → IsNumberedAf (af_with_argument f n)

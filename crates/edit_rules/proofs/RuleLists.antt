@@ -142,12 +142,12 @@ numbered_at f k n ok lt e =
     numbered_is f (rule_at f.rules k) n ok (Contains-get_or f.rules k no_rule lt) e
 
 -- the effect of taking a rule away
-pub drop_effect_is : (edit : Edit) (r : Rule) (dropped : List (ℕ × ℕ)) (head : ℕ) (body : List ℕ) → dropped ≡ []
-    → head ≡ r.head → body ≡ r.body
-    → ◌≡◌ {A = Effect} (record { edit = edit; rule = 0; dropped = dropped; gone = 0; head = head; body = body })
+pub drop_effect_is : (edit : Edit) (r : Rule) (dropped : List (ℕ × ℕ)) (gone : List ℕ) (head : ℕ) (body : List ℕ)
+    → dropped ≡ [] → gone ≡ [] → head ≡ r.head → body ≡ r.body
+    → ◌≡◌ {A = Effect} (record { edit = edit; rule = 0; dropped = dropped; gone = gone; head = head; body = body })
     (dropped_effect edit r)
-drop_effect_is edit r dropped head body a b c =
-    λ i. record { edit = edit; rule = 0; dropped = a i; gone = 0; head = b i; body = c i }
+drop_effect_is edit r dropped gone head body a b c d =
+    λ i. record { edit = edit; rule = 0; dropped = a i; gone = b i; head = c i; body = d i }
 
 -- of the rules before an index no more are kept than there are before it
 pub few_taken : (rules : List Rule) (i n : ℕ) → i < length rules → length (rules_but n (take i rules)) < length rules

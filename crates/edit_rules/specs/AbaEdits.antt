@@ -2,7 +2,7 @@
 -- of which the first that stands is told, the framework behind it, and its effect. Edits of such frameworks:
 -- A. Rapberger, M. Ulbricht, "On dynamics in structured argumentation formalisms", Journal of Artificial Intelligence
 -- Research 77 (2023).
-use Rattle.std.specs.Prelude.{ℕ, ◌+◌, ◌==◌, ◌&&◌, not, nat_le, nat_lt}
+use Rattle.std.specs.Prelude.{ℕ, ◌+◌, ◌==◌, ◌&&◌, not, nat_le, nat_lt, if◌then◌else◌}
 use Rattle.std.specs.Prelude.{List, [], ◌∷◌, ◌++◌, filter, map, Option, Some, None, Result, Err}
 use Rattle.std.specs.List.{find}
 use Rattle.semantics.specs.declared.numbers.TheConstants.{MAX_RULE}
@@ -11,13 +11,15 @@ use Rattle.semantics.specs.AbaFrameworks.{Aba}
 use Rattle.aba_notions.specs.Storage.{aba_of, no_rule}
 use Rattle.edit_rules.specs.declared.edit.Edit.{Edit}
 use Rattle.edit_rules.specs.declared.edit.Edit.TheVariants.{ArgAdd, ArgDrop, AttackAdd, AttackDrop, AsmAdd}
-use Rattle.edit_rules.specs.declared.edit.Edit.TheVariants.{AsmDrop, ConSet, RuleAdd, RuleDrop}
+use Rattle.edit_rules.specs.declared.edit.Edit.TheVariants.{AsmDrop, ConSet, ConAdd, ConDrop, RuleAdd, RuleDrop}
 use Rattle.edit_rules.specs.declared.effect.Effect.{Effect}
 use Rattle.edit_rules.specs.declared.effect.EditFault.{EditFault}
 use Rattle.edit_rules.specs.declared.effect.EditFault.TheVariants.{WrongKind, OutOfRange, AssumptionIsThere}
-use Rattle.edit_rules.specs.declared.effect.EditFault.TheVariants.{NotFlat, UnknownAssumption, NoSuchRule}
+use Rattle.edit_rules.specs.declared.effect.EditFault.TheVariants.{NotFlat, UnknownAssumption}
+use Rattle.edit_rules.specs.declared.effect.EditFault.TheVariants.{ContraryIsThere, NoSuchContrary, NoSuchRule}
 use Rattle.edit_rules.specs.Effects.{plain_effect}
 use Rattle.edit_rules.specs.Numbers.{has_number, with_number}
+use Rattle.edit_rules.specs.Pairs.{has_pair, with_pair, without_pair}
 use Rattle.edit_rules.specs.Refusals.{Refusal, refused_if, done_unless}
 
 -- the row of an edit: its refusals in their order, and what it does where none stands
@@ -45,18 +47,18 @@ no_assumption f a = refused_if (not (has_number f.assumptions a)) (UnknownAssump
 abbrev pub without_contrary : ℕ → List (ℕ × ℕ) → List (ℕ × ℕ)
 without_contrary a contraries = filter (λ p. not (p.0 == a)) contraries
 
--- pairs by rising assumption, in which a has the contrary c
+-- the pair of an assumption and a contrary, and none where that is 0
+abbrev pub pair_of : ℕ → ℕ → List (ℕ × ℕ)
+pair_of a c = if c == 0 then [] else (a, c) ∷ []
+
+-- pairs by rising assumption, in which a has the contrary c alone, and none where that is 0
 abbrev pub with_contrary : ℕ → ℕ → List (ℕ × ℕ) → List (ℕ × ℕ)
-with_contrary a c contraries = filter (λ p. nat_lt p.0 a) contraries ++ (a, c) ∷ filter (λ p. nat_lt a p.0) contraries
+with_contrary a c contraries =
+    filter (λ p. nat_lt p.0 a) contraries ++ (pair_of a c ++ filter (λ p. nat_lt a p.0) contraries)
 
--- the second number of a pair, and 0 where there is none
-abbrev pub second_in : Option (ℕ × ℕ) → ℕ
-second_in None = 0
-second_in (Some p) = p.1
-
--- the contrary that a has, and 0 where it is no assumption
-abbrev pub contrary_of : List (ℕ × ℕ) → ℕ → ℕ
-contrary_of contraries a = second_in (find (λ p. p.0 == a) contraries)
+-- the contraries of an atom; it has none where it is no assumption
+abbrev pub contraries_of : List (ℕ × ℕ) → ℕ → List ℕ
+contraries_of contraries a = map (λ p. p.1) (filter (λ p. p.0 == a) contraries)
 
 -- the numbers of a list in rising order, each once
 abbrev pub in_order : List ℕ → List ℕ
@@ -75,7 +77,7 @@ rule_in (Some r) = r
 abbrev pub rule_numbered : List Rule → ℕ → Rule
 rule_numbered rules n = rule_in (find (λ r. r.number == n) rules)
 
--- a framework with an assumption and its contrary more, without an assumption, and with another contrary of one
+-- a framework with an assumption more, which has one contrary or none, and without an assumption
 abbrev pub aba_with_assumption : Aba → ℕ → ℕ → Aba
 aba_with_assumption f a c =
     aba_of f.atoms (with_number a f.assumptions) (with_contrary a c f.contraries) f.rules f.next
@@ -84,8 +86,15 @@ abbrev pub aba_without_assumption : Aba → ℕ → Aba
 aba_without_assumption f a =
     aba_of f.atoms (filter (λ b. not (b == a)) f.assumptions) (without_contrary a f.contraries) f.rules f.next
 
+-- a framework in which an assumption has one contrary alone or none, one contrary more, and one less
 abbrev pub aba_with_contrary : Aba → ℕ → ℕ → Aba
 aba_with_contrary f a c = aba_of f.atoms f.assumptions (with_contrary a c f.contraries) f.rules f.next
+
+abbrev pub aba_with_pair : Aba → ℕ → ℕ → Aba
+aba_with_pair f a c = aba_of f.atoms f.assumptions (with_pair (a, c) f.contraries) f.rules f.next
+
+abbrev pub aba_without_pair : Aba → ℕ → ℕ → Aba
+aba_without_pair f a c = aba_of f.atoms f.assumptions (without_pair (a, c) f.contraries) f.rules f.next
 
 -- a framework with a rule more, which gets the next number, and without the rule of a number, which isn't given again
 abbrev pub next_rule : Aba → ℕ → List ℕ → Rule
@@ -98,15 +107,15 @@ aba_with_rule f h body =
 abbrev pub aba_without_rule : Aba → ℕ → Aba
 aba_without_rule f r = aba_of f.atoms f.assumptions f.contraries (rules_but r f.rules) f.next
 
--- the effect of an edit that gave a rule its number, that took a contrary away, that took a rule away
+-- the effect of an edit that gave a rule its number, that took contraries away, that took a rule away
 abbrev pub rule_effect : Edit → ℕ → Effect
-rule_effect edit rule = record { edit = edit; rule = rule; dropped = []; gone = 0; head = 0; body = [] }
+rule_effect edit rule = record { edit = edit; rule = rule; dropped = []; gone = []; head = 0; body = [] }
 
-abbrev pub contrary_effect : Edit → ℕ → Effect
+abbrev pub contrary_effect : Edit → List ℕ → Effect
 contrary_effect edit gone = record { edit = edit; rule = 0; dropped = []; gone = gone; head = 0; body = [] }
 
 abbrev pub dropped_effect : Edit → Rule → Effect
-dropped_effect edit r = record { edit = edit; rule = 0; dropped = []; gone = 0; head = r.head; body = r.body }
+dropped_effect edit r = record { edit = edit; rule = 0; dropped = []; gone = []; head = r.head; body = r.body }
 
 abbrev pub assumption_added : Aba → ℕ → ℕ → AbaRow
 assumption_added f a c = record {
@@ -120,14 +129,32 @@ abbrev pub assumption_dropped : Aba → ℕ → AbaRow
 assumption_dropped f a = record {
   refusals = beyond 1 f.atoms a ∷ no_assumption f a ∷ [];
   framework = aba_without_assumption f a;
-  effect = contrary_effect (AsmDrop a) (contrary_of f.contraries a);
+  effect = contrary_effect (AsmDrop a) (contraries_of f.contraries a);
 }
+
+-- an assumption that is none, or numbers of which one lies outside its range; that of a contrary has this lower end
+abbrev pub pair_refusals : ℕ → Aba → ℕ → ℕ → List Refusal
+pair_refusals low f a c = beyond 1 f.atoms a ∷ beyond low f.atoms c ∷ no_assumption f a ∷ []
 
 abbrev pub contrary_set : Aba → ℕ → ℕ → AbaRow
 contrary_set f a c = record {
-  refusals = beyond 1 f.atoms a ∷ beyond 0 f.atoms c ∷ no_assumption f a ∷ [];
+  refusals = pair_refusals 0 f a c;
   framework = aba_with_contrary f a c;
-  effect = contrary_effect (ConSet a c) (contrary_of f.contraries a);
+  effect = contrary_effect (ConSet a c) (contraries_of f.contraries a);
+}
+
+abbrev pub contrary_added : Aba → ℕ → ℕ → AbaRow
+contrary_added f a c = record {
+  refusals = pair_refusals 1 f a c ++ refused_if (has_pair f.contraries (a, c)) ContraryIsThere ∷ [];
+  framework = aba_with_pair f a c;
+  effect = plain_effect (ConAdd a c);
+}
+
+abbrev pub contrary_dropped : Aba → ℕ → ℕ → AbaRow
+contrary_dropped f a c = record {
+  refusals = pair_refusals 1 f a c ++ refused_if (not (has_pair f.contraries (a, c))) NoSuchContrary ∷ [];
+  framework = aba_without_pair f a c;
+  effect = plain_effect (ConDrop a c);
 }
 
 -- the numbers of a rule are looked at in the order of the edit: the head, then the body as it was given
@@ -155,6 +182,8 @@ aba_row f (AttackDrop b a) = None
 aba_row f (AsmAdd a c) = Some (assumption_added f a c)
 aba_row f (AsmDrop a) = Some (assumption_dropped f a)
 aba_row f (ConSet a c) = Some (contrary_set f a c)
+aba_row f (ConAdd a c) = Some (contrary_added f a c)
+aba_row f (ConDrop a c) = Some (contrary_dropped f a c)
 aba_row f (RuleAdd h body) = Some (rule_added f h body)
 aba_row f (RuleDrop r) = Some (rule_dropped f r)
 

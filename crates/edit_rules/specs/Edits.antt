@@ -2,21 +2,21 @@
 -- stands is told, the framework behind it, and its effect. Edits of a framework as operations on its graph: C. Cayrol,
 -- F. Dupin de Saint-Cyr, M.-C. Lagasquie-Schiex, "Change in abstract argumentation frameworks: adding an argument",
 -- Journal of Artificial Intelligence Research 38 (2010).
-use Rattle.std.specs.Prelude.{ℕ, ◌==◌, ◌&&◌, ◌||◌, Bool, not, nat_le, nat_lt}
+use Rattle.std.specs.Prelude.{ℕ, ◌==◌, ◌&&◌, ◌||◌, Bool, not, nat_le}
 use Rattle.std.specs.Prelude.{List, [], ◌∷◌, ◌++◌, filter, Option, Some, None, Result, Err}
-use Rattle.std.specs.List.{list_any}
 use Rattle.semantics.specs.Framework.{Af}
 use Rattle.semantics.specs.Frameworks.{Framework, af, aba}
 use Rattle.semantics.specs.declared.argument.TheConstants.{MAX_ARGUMENT}
 use Rattle.edit_rules.specs.declared.edit.Edit.{Edit}
 use Rattle.edit_rules.specs.declared.edit.Edit.TheVariants.{ArgAdd, ArgDrop, AttackAdd, AttackDrop, AsmAdd}
-use Rattle.edit_rules.specs.declared.edit.Edit.TheVariants.{AsmDrop, ConSet, RuleAdd, RuleDrop}
+use Rattle.edit_rules.specs.declared.edit.Edit.TheVariants.{AsmDrop, ConSet, ConAdd, ConDrop, RuleAdd, RuleDrop}
 use Rattle.edit_rules.specs.declared.effect.Effect.{Effect}
 use Rattle.edit_rules.specs.declared.effect.EditFault.{EditFault}
 use Rattle.edit_rules.specs.declared.effect.EditFault.TheVariants.{WrongKind, OutOfRange, ArgumentIsThere}
 use Rattle.edit_rules.specs.declared.effect.EditFault.TheVariants.{UnknownArgument, AttackIsThere, NoSuchAttack}
 use Rattle.edit_rules.specs.Refusals.{Refusal, refused_if, done_unless}
 use Rattle.edit_rules.specs.Numbers.{has_number, with_number}
+use Rattle.edit_rules.specs.Pairs.{has_pair, with_pair, without_pair}
 use Rattle.edit_rules.specs.Effects.{plain_effect}
 use Rattle.edit_rules.specs.AbaEdits.{AbaRow, aba_row}
 
@@ -25,10 +25,6 @@ pub record Row : Type 0 where
   pub refusals : List Refusal
   pub framework : Framework
   pub effect : Effect
-
--- the list has the pair
-abbrev pub has_pair : List (ℕ × ℕ) → ℕ × ℕ → Bool
-has_pair ps p = list_any (λ q. q.0 == p.0 && q.1 == p.1) ps
 
 -- the number is no argument's
 abbrev pub outside : ℕ → Refusal
@@ -41,14 +37,6 @@ unknown f x = refused_if (not (has_number f.live x)) (UnknownArgument x)
 -- an attack between numbers of which one is no argument's, or isn't live
 abbrev pub end_refusals : Af → ℕ → ℕ → List Refusal
 end_refusals f b a = outside b ∷ outside a ∷ unknown f b ∷ unknown f a ∷ []
-
--- the first pair comes before the second
-abbrev pub is_before : ℕ × ℕ → ℕ × ℕ → Bool
-is_before p q = nat_lt p.0 q.0 || (p.0 == q.0 && nat_lt p.1 q.1)
-
--- a rising list of pairs with a pair more
-abbrev pub with_pair : ℕ × ℕ → List (ℕ × ℕ) → List (ℕ × ℕ)
-with_pair p ps = filter (λ q. is_before q p) ps ++ p ∷ filter (λ q. is_before p q) ps
 
 -- the argument is an end of the attack
 abbrev pub is_end : ℕ → ℕ × ℕ → Bool
@@ -69,7 +57,7 @@ abbrev pub af_with_attack : Af → ℕ → ℕ → Af
 af_with_attack f b a = record { live = f.live; attacks = with_pair (b, a) f.attacks }
 
 abbrev pub af_without_attack : Af → ℕ → ℕ → Af
-af_without_attack f b a = record { live = f.live; attacks = filter (λ p. not (p.0 == b && p.1 == a)) f.attacks }
+af_without_attack f b a = record { live = f.live; attacks = without_pair (b, a) f.attacks }
 
 abbrev pub argument_added : Af → ℕ → Row
 argument_added f n = record {
@@ -89,7 +77,7 @@ argument_dropped f n = record {
     edit = ArgDrop n;
     rule = 0;
     dropped = filter (is_end n) f.attacks;
-    gone = 0;
+    gone = [];
     head = 0;
     body = [];
   };
@@ -105,10 +93,7 @@ attack_added f b a = record {
 abbrev pub attack_dropped : Af → ℕ → ℕ → Row
 attack_dropped f b a = record {
   refusals = end_refusals f b a ++ refused_if (not (has_pair f.attacks (b, a))) NoSuchAttack ∷ [];
-  framework = af (record {
-    live = f.live;
-    attacks = filter (λ p. not (p.0 == b && p.1 == a)) f.attacks;
-  });
+  framework = af (af_without_attack f b a);
   effect = plain_effect (AttackDrop b a);
 }
 
@@ -121,6 +106,8 @@ af_row f (AttackDrop b a) = Some (attack_dropped f b a)
 af_row f (AsmAdd a c) = None
 af_row f (AsmDrop a) = None
 af_row f (ConSet a c) = None
+af_row f (ConAdd a c) = None
+af_row f (ConDrop a c) = None
 af_row f (RuleAdd h body) = None
 af_row f (RuleDrop r) = None
 

@@ -5,4 +5,4 @@ use Rattle.edit_rules.specs.declared.effect.Effect.{Effect}
 
 -- an effect that took nothing away
 abbrev pub plain_effect : Edit → Effect
-plain_effect edit = record { edit = edit; rule = 0; dropped = []; gone = 0; head = 0; body = [] }
+plain_effect edit = record { edit = edit; rule = 0; dropped = []; gone = []; head = 0; body = [] }

@@ -6,6 +6,7 @@ pub mod Applying
 pub mod Laws
 pub mod Refusals
 pub mod Numbers
+pub mod Pairs
 pub mod Effects
 pub mod AbaEdits
 pub mod Parts

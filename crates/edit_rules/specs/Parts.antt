@@ -1,7 +1,7 @@
 -- The steps of an edit: what they answer, and the flat lists that the framework behind it is made of.
 use Rattle.std.specs.Prelude.{◌≡◌, ◌↔◌, ◌⊎◌, ◌<◌, ℕ, List, Contains, length, Result, Ok, Err}
 use Rattle.semantics.specs.Rules.{Rule}
-use Rattle.semantics.specs.AbaFrameworks.{Aba}
+use Rattle.semantics.specs.AbaFrameworks.{Aba, IsNumberedAba}
 use Rattle.aba_notions.specs.declared.rule_table.RuleLists.{RuleLists}
 use Rattle.aba_notions.specs.Storage.{rule_at}
 use Rattle.edit_rules.specs.declared.effect.Effect.{Effect}
@@ -20,3 +20,12 @@ pub record AreListsOf (rules : List Rule) (lists : RuleLists) : Type 0 where
   pub heads_are : lists.heads.items ≡ heads_of rules
   pub bodies_are : (k y : ℕ) → Contains lists.bodies.items (k, y)
       ↔ ((k < length rules) × Contains (rule_at rules k).body y)
+
+-- a framework that differs from another in its contraries alone, which are the pairs of a list
+pub record HasContraries (f : Aba) (pairs : List (ℕ × ℕ)) (g : Aba) : Type 0 where
+  pub atoms_are : g.atoms ≡ f.atoms
+  pub assumptions_are : g.assumptions ≡ f.assumptions
+  pub contraries_are : (p : ℕ × ℕ) → Contains g.contraries p ↔ Contains pairs p
+  pub rules_are : g.rules ≡ f.rules
+  pub next_is : g.next ≡ f.next
+  pub form : IsNumberedAba g

@@ -1,20 +1,22 @@
 //! Edits of a flat assumption-based framework.
 
-ghost use Rattle.std.specs.Prelude.{◌≡◌, ◌⊎◌, ◌==◌, IfOk, IfErr, OnErr, Ok, Err};
-ghost use Rattle.std.specs.List.{find};
+ghost use Rattle.std.specs.Prelude.{◌≡◌, ◌⊎◌, IfOk, IfErr, OnErr, Ok, Err};
 ghost use Rattle.edit_rules.specs.declared.edit.Edit.TheVariants.{RuleAdd};
 ghost use Rattle.edit_rules.specs.declared.effect.EditFault.TheVariants.{Memory};
 ghost use Rattle.edit_rules.specs.AbaEdits.{aba_outcome, aba_row_outcome};
 ghost use Rattle.edit_rules.specs.AbaEdits.{assumption_added, assumption_dropped, contrary_set};
-ghost use Rattle.edit_rules.specs.AbaEdits.{rule_added, rule_dropped};
+ghost use Rattle.edit_rules.specs.AbaEdits.{contrary_added, contrary_dropped, rule_added, rule_dropped};
 ghost use Rattle.edit_rules.specs.Refusals.{NoneStands};
-ghost use Rattle.edit_rules.specs.AbaEdits.{contrary_effect, contrary_of, rule_effect};
+ghost use Rattle.edit_rules.specs.AbaEdits.{contraries_of, contrary_effect, rule_effect};
 ghost use Rattle.edit_rules.specs.Parts.{ComesTo};
 
-use crate::checks::{check_assumption, check_contrary, check_drop, check_rule, check_rule_drop};
+use crate::checks::{
+    check_assumption, check_contrary_add, check_contrary_drop, check_drop, check_pair, check_rule,
+    check_rule_drop,
+};
 use crate::makes::{
-    body_at, rule_index, with_assumption, with_contrary, with_rule, without_assumption,
-    without_rule,
+    body_at, rule_index, with_assumption, with_contrary, with_pair, with_rule, without_assumption,
+    without_pair, without_rule,
 };
 use crate::{Edit, EditFault, Effect};
 use aba_notions::AbaPlain;
@@ -50,6 +52,8 @@ fn copy_edited(
         Edit::AsmAdd(assumption, contrary) => add_assumption(alloc, plain, *assumption, *contrary),
         Edit::AsmDrop(assumption) => drop_assumption(alloc, plain, *assumption),
         Edit::ConSet(assumption, contrary) => set_contrary(alloc, plain, *assumption, *contrary),
+        Edit::ConAdd(assumption, contrary) => add_contrary(alloc, plain, *assumption, *contrary),
+        Edit::ConDrop(assumption, contrary) => drop_contrary(alloc, plain, *assumption, *contrary),
         Edit::RuleAdd(head, body) => add_rule(alloc, plain, *head, body.as_slice()),
         Edit::RuleDrop(number) => drop_rule(alloc, plain, *number),
     }
@@ -67,7 +71,7 @@ fn add_assumption(
     check_assumption(plain, assumption, contrary)?;
     let after = with_assumption(alloc, plain, assumption, contrary)?;
     let edit = Edit::AsmAdd(assumption, contrary);
-    Ok((after, effect_of(alloc, edit, 0)))
+    Ok((after, Effect::of_edit(alloc, edit)))
 }
 
 /// Makes an assumption one no longer.
@@ -80,12 +84,12 @@ fn drop_assumption(
 {
     check_drop(plain, assumption)?;
     let after = without_assumption(alloc, plain, assumption)?;
+    let gone = contraries_in(alloc, plain, assumption)?;
     let edit = Edit::AsmDrop(assumption);
-    let contrary = contrary_in(plain, assumption);
-    Ok((after, effect_of(alloc, edit, contrary)))
+    Ok((after, effect_of(alloc, edit, gone)))
 }
 
-/// Replaces the contrary of an assumption.
+/// Gives an assumption one contrary alone, or none where that is 0.
 fn set_contrary(
     alloc: Global,
     plain: &AbaPlain,
@@ -94,11 +98,41 @@ fn set_contrary(
 ) -> Result<(AbaPlain, Effect), EditFault>
     ensures { ComesTo (aba_row_outcome (contrary_set plain.now assumption contrary)) result }
 {
-    check_contrary(plain, assumption, contrary)?;
+    check_pair(plain, 0, assumption, contrary)?;
     let after = with_contrary(alloc, plain, assumption, contrary)?;
+    let gone = contraries_in(alloc, plain, assumption)?;
     let edit = Edit::ConSet(assumption, contrary);
-    let gone = contrary_in(plain, assumption);
     Ok((after, effect_of(alloc, edit, gone)))
+}
+
+/// Gives an assumption one contrary more.
+fn add_contrary(
+    alloc: Global,
+    plain: &AbaPlain,
+    assumption: u32,
+    contrary: u32,
+) -> Result<(AbaPlain, Effect), EditFault>
+    ensures { ComesTo (aba_row_outcome (contrary_added plain.now assumption contrary)) result }
+{
+    check_contrary_add(plain, assumption, contrary)?;
+    let after = with_pair(alloc, plain, assumption, contrary)?;
+    let edit = Edit::ConAdd(assumption, contrary);
+    Ok((after, Effect::of_edit(alloc, edit)))
+}
+
+/// Takes one contrary of an assumption away.
+fn drop_contrary(
+    alloc: Global,
+    plain: &AbaPlain,
+    assumption: u32,
+    contrary: u32,
+) -> Result<(AbaPlain, Effect), EditFault>
+    ensures { ComesTo (aba_row_outcome (contrary_dropped plain.now assumption contrary)) result }
+{
+    check_contrary_drop(plain, assumption, contrary)?;
+    let after = without_pair(alloc, plain, assumption, contrary)?;
+    let edit = Edit::ConDrop(assumption, contrary);
+    Ok((after, Effect::of_edit(alloc, edit)))
 }
 
 /// Adds a rule.
@@ -133,25 +167,21 @@ fn rule_edit(alloc: Global, head: u32, body: &[u32]) -> Result<Edit, OutOfMemory
     Ok(Edit::RuleAdd(head, body))
 }
 
-/// The contrary of an assumption, and 0 where the atom is none.
-fn contrary_in(plain: &AbaPlain, assumption: u32) -> u32
-    ensures { result ≡ contrary_of plain.now.contraries assumption }
+/// The contraries of an atom, rising. It has none where it is no assumption.
+fn contraries_in(
+    alloc: Global,
+    plain: &AbaPlain,
+    assumption: u32,
+) -> Result<Items<u32>, OutOfMemory>
+    ensures { IfOk result (λ gone. gone ≡ contraries_of plain.now.contraries assumption) }
 {
-    match pair_of(plain.contraries(), assumption) {
-        Some(pair) => pair.1,
-        None => 0,
-    }
+    let pairs = plain.contraries_of(assumption);
+    let gone = pairs.iter().map(|pair| pair.1).collect(alloc)?;
+    Ok(Items::from_vec(gone))
 }
 
-/// The first pair that begins with a number.
-fn pair_of(pairs: &[(u32, u32)], first: u32) -> Option<(u32, u32)>
-    ensures { result ≡ find (λ p. p.0 == first) pairs.now }
-{
-    pairs.iter().copied().find(|pair| pair.0 == first)
-}
-
-/// The effect of an edit that took a contrary away, which is 0 where it took none.
-fn effect_of(alloc: Global, edit: Edit, gone: u32) -> Effect
+/// The effect of an edit that took contraries away.
+fn effect_of(alloc: Global, edit: Edit, gone: Items<u32>) -> Effect
     ensures { result ≡ contrary_effect edit gone }
 {
     Effect {
@@ -172,7 +202,7 @@ fn numbered_effect(alloc: Global, edit: Edit, rule: u32) -> Effect
         edit,
         rule,
         dropped: Items::new(alloc),
-        gone: 0,
+        gone: Items::new(alloc),
         head: 0,
         body: Items::new(alloc),
     }
@@ -190,7 +220,7 @@ fn effect_of_drop(alloc: Global, plain: &AbaPlain, number: u32) -> Result<Effect
         edit: Edit::RuleDrop(number),
         rule: 0,
         dropped: Items::new(alloc),
-        gone: 0,
+        gone: Items::new(alloc),
         head: heads[index],
         body: Items::from_vec(body),
     })

@@ -2,10 +2,11 @@
 
 ghost use Rattle.std.specs.Prelude.{◌≡◌, ◌∷◌, map};
 ghost use Rattle.edit_rules.specs.Numbers.{has_number};
+ghost use Rattle.edit_rules.specs.Pairs.{has_pair};
 ghost use Rattle.edit_rules.specs.Refusals.{done_unless};
 ghost use Rattle.edit_rules.specs.AbaEdits.{beyond, heads_of, numbers_of};
-ghost use Rattle.edit_rules.specs.AbaEdits.{assumption_added, assumption_dropped, contrary_set};
-ghost use Rattle.edit_rules.specs.AbaEdits.{rule_added, rule_dropped};
+ghost use Rattle.edit_rules.specs.AbaEdits.{assumption_added, assumption_dropped, pair_refusals};
+ghost use Rattle.edit_rules.specs.AbaEdits.{contrary_added, contrary_dropped, rule_added, rule_dropped};
 
 use crate::EditFault;
 use aba_notions::AbaPlain;
@@ -23,6 +24,13 @@ fn is_assumption(plain: &AbaPlain, atom: u32) -> bool
     ensures { result ≡ has_number plain.now.assumptions atom }
 {
     plain.assumptions().contains(atom)
+}
+
+/// Whether the second atom is a contrary of the first.
+fn is_contrary(plain: &AbaPlain, atom: u32, contrary: u32) -> bool
+    ensures { result ≡ has_pair plain.now.contraries (atom, contrary) }
+{
+    plain.has_contrary(atom, contrary)
 }
 
 /// Whether an atom heads a rule.
@@ -75,22 +83,53 @@ pub(crate) fn check_drop(plain: &AbaPlain, assumption: u32) -> Result<(), EditFa
     Ok(())
 }
 
-/// Refuses to give an assumption this contrary.
-pub(crate) fn check_contrary(
+/// Refuses an assumption that is none, and numbers of which one is no atom. The contrary's may begin lower.
+pub(crate) fn check_pair(
     plain: &AbaPlain,
+    low: u32,
     assumption: u32,
     contrary: u32,
 ) -> Result<(), EditFault>
-    ensures { result ≡ done_unless (contrary_set plain.now assumption contrary).refusals tt }
+    ensures { result ≡ done_unless (pair_refusals low plain.now assumption contrary) tt }
 {
     if is_beyond(1, plain.atoms(), assumption) {
         return Err(EditFault::OutOfRange(assumption));
     }
-    if is_beyond(0, plain.atoms(), contrary) {
+    if is_beyond(low, plain.atoms(), contrary) {
         return Err(EditFault::OutOfRange(contrary));
     }
     if !is_assumption(plain, assumption) {
         return Err(EditFault::UnknownAssumption(assumption));
+    }
+    Ok(())
+}
+
+/// Refuses to give an assumption this contrary more.
+pub(crate) fn check_contrary_add(
+    plain: &AbaPlain,
+    assumption: u32,
+    contrary: u32,
+) -> Result<(), EditFault>
+    ensures { result ≡ done_unless (contrary_added plain.now assumption contrary).refusals tt }
+{
+    check_pair(plain, 1, assumption, contrary)?;
+    if is_contrary(plain, assumption, contrary) {
+        return Err(EditFault::ContraryIsThere);
+    }
+    Ok(())
+}
+
+/// Refuses to take this contrary of an assumption away.
+pub(crate) fn check_contrary_drop(
+    plain: &AbaPlain,
+    assumption: u32,
+    contrary: u32,
+) -> Result<(), EditFault>
+    ensures { result ≡ done_unless (contrary_dropped plain.now assumption contrary).refusals tt }
+{
+    check_pair(plain, 1, assumption, contrary)?;
+    if !is_contrary(plain, assumption, contrary) {
+        return Err(EditFault::NoSuchContrary);
     }
     Ok(())
 }

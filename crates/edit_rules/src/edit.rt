@@ -16,12 +16,16 @@ pub enum Edit {
     AttackAdd(u32, u32),
     /// Takes away an attack: the attacker, then the target.
     AttackDrop(u32, u32),
-    /// Makes an atom an assumption with a contrary, which 0 says that it hasn't.
+    /// Makes an atom an assumption with one contrary, or with none where that is 0.
     AsmAdd(u32, u32),
-    /// Makes an assumption one no longer; its contrary goes.
+    /// Makes an assumption one no longer; its contraries go.
     AsmDrop(u32),
-    /// Replaces the contrary of an assumption.
+    /// Makes an atom the only contrary of an assumption, or takes all away where that is 0.
     ConSet(u32, u32),
+    /// Adds a contrary of an assumption: the assumption, then the contrary.
+    ConAdd(u32, u32),
+    /// Takes away a contrary of an assumption: the assumption, then the contrary.
+    ConDrop(u32, u32),
     /// Adds a rule: its head, then its body.
     RuleAdd(u32, Items<u32>),
     /// Takes away the rule of a number.
@@ -39,6 +43,8 @@ impl Drop for Edit {
             | Edit::AsmAdd(_, _)
             | Edit::AsmDrop(_)
             | Edit::ConSet(_, _)
+            | Edit::ConAdd(_, _)
+            | Edit::ConDrop(_, _)
             | Edit::RuleAdd(_, _)
             | Edit::RuleDrop(_) => {}
         }
@@ -58,6 +64,8 @@ impl Edit {
             Edit::AsmAdd(assumption, contrary) => Edit::AsmAdd(*assumption, *contrary),
             Edit::AsmDrop(assumption) => Edit::AsmDrop(*assumption),
             Edit::ConSet(assumption, contrary) => Edit::ConSet(*assumption, *contrary),
+            Edit::ConAdd(assumption, contrary) => Edit::ConAdd(*assumption, *contrary),
+            Edit::ConDrop(assumption, contrary) => Edit::ConDrop(*assumption, *contrary),
             Edit::RuleAdd(head, body) => Edit::RuleAdd(*head, copy_body(alloc, body.as_slice())?),
             Edit::RuleDrop(rule) => Edit::RuleDrop(*rule),
         })

@@ -60,6 +60,8 @@ fn apply_af(alloc: Global, plain: &mut AfPlain, edit: &Edit) -> Result<Effect, E
         Edit::AsmAdd(_, _)
         | Edit::AsmDrop(_)
         | Edit::ConSet(_, _)
+        | Edit::ConAdd(_, _)
+        | Edit::ConDrop(_, _)
         | Edit::RuleAdd(_, _)
         | Edit::RuleDrop(_) => Err(EditFault::WrongKind),
     }

@@ -16,8 +16,9 @@ pub struct Effect {
     pub rule: u32,
     /// The attacks (attacker, target) that went with a dropped argument, by rising attacker and then target.
     pub dropped: Items<(u32, u32)>,
-    /// The contrary that the assumption of `ConSet` or `AsmDrop` had before, and 0 for every other edit.
-    pub gone: u32,
+    /// All contraries that the assumption of `ConSet` or `AsmDrop` had before, rising, also one that `ConSet` gives
+    /// again, and empty for every other edit.
+    pub gone: Items<u32>,
     /// The head of a dropped rule, and 0 for every other edit.
     pub head: u32,
     /// The body of a dropped rule, and empty for every other edit.
@@ -60,6 +61,10 @@ pub enum EditFault {
     NotFlat(u32),
     /// The number is no assumption's.
     UnknownAssumption(u32),
+    /// The contrary to be added is there.
+    ContraryIsThere,
+    /// The contrary to be dropped isn't there.
+    NoSuchContrary,
     /// No rule has the number.
     NoSuchRule(u32),
     /// An allocation was refused.
@@ -86,13 +91,13 @@ impl Effect {
 
     /// The effect of an edit that took attacks along.
     pub fn with_dropped(alloc: Global, edit: Edit, dropped: Items<(u32, u32)>) -> Effect
-        ensures { result ≡ record { edit = edit; rule = 0; dropped = dropped; gone = 0; head = 0; body = [] } }
+        ensures { result ≡ record { edit = edit; rule = 0; dropped = dropped; gone = []; head = 0; body = [] } }
     {
         Effect {
             edit,
             rule: 0,
             dropped,
-            gone: 0,
+            gone: Items::new(alloc),
             head: 0,
             body: Items::new(alloc),
         }

@@ -3,14 +3,15 @@
 ghost use Rattle.std.specs.Prelude.{◌≡◌, ◌<◌, ◌≤◌, ◌+◌, ◌==◌, ◌++◌, ◌∷◌, [], not, true};
 ghost use Rattle.std.specs.Prelude.{IfOk, OnOk, filter, length, map, take};
 ghost use Rattle.semantics.specs.declared.numbers.TheConstants.{MAX_RULE};
-ghost use Rattle.aba_notions.specs.Storage.{rule_at};
+ghost use Rattle.aba_notions.specs.Storage.{AreContraries, rule_at};
 ghost use Rattle.edit_rules.specs.Numbers.{has_number};
 ghost use Rattle.edit_rules.specs.Refusals.{NoneStands};
-ghost use Rattle.edit_rules.specs.AbaEdits.{without_contrary, numbers_of, rules_but};
+ghost use Rattle.edit_rules.specs.Pairs.{without_pair as without_that};
+ghost use Rattle.edit_rules.specs.AbaEdits.{without_contrary, numbers_of, pair_of, rules_but};
 ghost use Rattle.edit_rules.specs.AbaEdits.{aba_with_assumption, aba_without_assumption, aba_with_contrary};
-ghost use Rattle.edit_rules.specs.AbaEdits.{aba_with_rule, aba_without_rule};
-ghost use Rattle.edit_rules.specs.AbaEdits.{assumption_added, contrary_set, rule_added};
-ghost use Rattle.edit_rules.specs.Parts.{AreListsOf};
+ghost use Rattle.edit_rules.specs.AbaEdits.{aba_with_pair, aba_without_pair, aba_with_rule, aba_without_rule};
+ghost use Rattle.edit_rules.specs.AbaEdits.{assumption_added, contrary_set, contrary_added, rule_added};
+ghost use Rattle.edit_rules.specs.Parts.{AreListsOf, HasContraries};
 
 use crate::numbers_but;
 use aba_notions::{AbaPlain, RuleLists};
@@ -49,7 +50,7 @@ pub(crate) fn with_assumption(
     )
 }
 
-/// The framework without an assumption and its contrary.
+/// The framework without an assumption and its contraries.
 pub(crate) fn without_assumption(
     alloc: Global,
     plain: &AbaPlain,
@@ -70,7 +71,7 @@ pub(crate) fn without_assumption(
     )
 }
 
-/// The framework with another contrary of an assumption.
+/// The framework in which an assumption has one contrary alone, or none where that is 0.
 pub(crate) fn with_contrary(
     alloc: Global,
     plain: &AbaPlain,
@@ -80,8 +81,20 @@ pub(crate) fn with_contrary(
     requires { NoneStands (contrary_set plain.now assumption contrary).refusals }
     ensures { IfOk result (λ after. after ≡ aba_with_contrary plain.now assumption contrary) }
 {
-    let assumptions = plain.assumptions().copy(alloc)?;
     let contraries = pairs_with(alloc, plain.contraries(), assumption, contrary)?;
+    with_contraries(alloc, plain, contraries)
+}
+
+/// The framework with these pairs of an assumption and a contrary of it, which may stand in any order.
+fn with_contraries(
+    alloc: Global,
+    plain: &AbaPlain,
+    contraries: Vec<(u32, u32)>,
+) -> Result<AbaPlain, Memory>
+    requires { AreContraries plain.now.atoms plain.now.assumptions contraries.items }
+    ensures { IfOk result (HasContraries plain.now contraries.items) }
+{
+    let assumptions = plain.assumptions().copy(alloc)?;
     let rules = rules_except(alloc, plain, 0)?;
     AbaPlain::new(
         alloc,
@@ -91,6 +104,34 @@ pub(crate) fn with_contrary(
         rules,
         plain.next(),
     )
+}
+
+/// The framework with one contrary of an assumption more.
+pub(crate) fn with_pair(
+    alloc: Global,
+    plain: &AbaPlain,
+    assumption: u32,
+    contrary: u32,
+) -> Result<AbaPlain, Memory>
+    requires { NoneStands (contrary_added plain.now assumption contrary).refusals }
+    ensures { IfOk result (λ after. after ≡ aba_with_pair plain.now assumption contrary) }
+{
+    let mut contraries = Vec::from_slice(alloc, plain.contraries())?;
+    contraries.push((assumption, contrary))?;
+    with_contraries(alloc, plain, contraries)
+}
+
+/// The framework with one contrary of an assumption less.
+pub(crate) fn without_pair(
+    alloc: Global,
+    plain: &AbaPlain,
+    assumption: u32,
+    contrary: u32,
+) -> Result<AbaPlain, Memory>
+    ensures { IfOk result (λ after. after ≡ aba_without_pair plain.now assumption contrary) }
+{
+    let contraries = pairs_but(alloc, plain.contraries(), assumption, contrary)?;
+    with_contraries(alloc, plain, contraries)
 }
 
 /// The framework with a rule more.
@@ -151,7 +192,26 @@ fn pairs_except(
     )
 }
 
-/// The pairs in which an assumption has a contrary, and the others as before. They stand in no order.
+/// The pairs but for one.
+fn pairs_but(
+    alloc: Global,
+    pairs: &[(u32, u32)],
+    assumption: u32,
+    contrary: u32,
+) -> Result<Vec<(u32, u32)>, Memory>
+    ensures { IfOk result (λ kept. kept.items ≡ without_that (assumption, contrary) pairs.now) }
+{
+    Ok(
+        pairs
+            .iter()
+            .copied()
+            .filter(|pair| pair.0 != assumption || pair.1 != contrary)
+            .collect(alloc)?,
+    )
+}
+
+/// The pairs in which an assumption has one contrary alone, or none where that is 0, and the others as before. They
+/// stand in no order.
 fn pairs_with(
     alloc: Global,
     pairs: &[(u32, u32)],
@@ -159,9 +219,12 @@ fn pairs_with(
     contrary: u32,
 ) -> Result<Vec<(u32, u32)>, Memory>
     ensures { IfOk result (λ made.
-        made.items ≡ without_contrary assumption pairs.now ++ (assumption, contrary) ∷ []) }
+        made.items ≡ without_contrary assumption pairs.now ++ pair_of assumption contrary) }
 {
     let mut made = pairs_except(alloc, pairs, assumption)?;
+    if contrary == 0 {
+        return Ok(made);
+    }
     made.push((assumption, contrary))?;
     Ok(made)
 }

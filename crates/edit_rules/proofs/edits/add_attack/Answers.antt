@@ -1,7 +1,8 @@
 use Rattle.std.proofs.Common.{◌≡◌, ◌⊎◌, ◌∙◌, sym, ap, refl, inr, [], ◌∷◌, Err, IfErr}
 use Rattle.semantics.specs.Frameworks.{af}
 use Rattle.edit_rules.specs.Refusals.{refused_if}
-use Rattle.edit_rules.specs.Edits.{attack_added, end_refusals, has_pair, row_outcome}
+use Rattle.edit_rules.specs.Edits.{attack_added, end_refusals, row_outcome}
+use Rattle.edit_rules.specs.Pairs.{has_pair}
 use Rattle.edit_rules.specs.declared.effect.EditFault.TheVariants.{AttackIsThere, Memory}
 use Rattle.edit_rules.proofs.EditWordTests.{is_false, not_so}
 use Rattle.edit_rules.proofs.EditTests.{there_pair, pair_there}

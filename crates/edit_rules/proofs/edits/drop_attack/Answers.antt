@@ -1,7 +1,8 @@
 use Rattle.std.proofs.Common.{◌≡◌, ◌⊎◌, ◌∙◌, sym, ap, refl, inr, [], ◌∷◌, not, Err, IfErr}
 use Rattle.semantics.specs.Frameworks.{af}
 use Rattle.edit_rules.specs.Refusals.{refused_if}
-use Rattle.edit_rules.specs.Edits.{attack_dropped, end_refusals, has_pair, row_outcome}
+use Rattle.edit_rules.specs.Edits.{attack_dropped, end_refusals, row_outcome}
+use Rattle.edit_rules.specs.Pairs.{has_pair}
 use Rattle.edit_rules.specs.declared.effect.EditFault.TheVariants.{Memory, NoSuchAttack}
 use Rattle.edit_rules.proofs.EditWordTests.{is_false, not_so}
 use Rattle.edit_rules.proofs.EditTests.{there_pair, pair_there}
