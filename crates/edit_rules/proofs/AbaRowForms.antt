@@ -58,10 +58,10 @@ pub is_atom : (atoms x : ℕ) → (beyond 1 atoms x).stands ≡ false → IsAtom
 is_atom atoms x h = let r = in_range 1 atoms x h in record { low = r.0; high = r.1 }
 
 -- the contrary of a new pair, which isn't 0
-contrary_is : (atoms b d a c : ℕ) → c ≤ atoms → ((b, d) ≡ (a, c)) × (c ≢ 0) → IsAtom atoms d
-contrary_is atoms b d a c bound e =
-    subst (IsAtom atoms) (sym (ap (λ (p : ℕ × ℕ). p.1) e.0)) (record {
-      low = ⊎_elim (λ (lt : c < 1). absurd (e.1 (omega arith))) (λ ge. ge) (cases_lt c 1);
+contrary_is : (atoms c d : ℕ) → c ≤ atoms → c ≢ 0 → d ≡ c → IsAtom atoms d
+contrary_is atoms c d bound some e =
+    subst (IsAtom atoms) (sym e) (record {
+      low = ⊎_elim (λ (lt : c < 1). absurd (some (omega arith))) (λ ge. ge) (cases_lt c 1);
       high = bound;
     })
 
@@ -92,8 +92,10 @@ with_assumption_fits f a c ok atom bound free = record {
     contraries_are = λ b d h. ⊎_elim
         (λ l. let old = ok.form.contraries_are b d ((without_contrary_members a f.contraries (b, d)).0 l).0 in
         ((with_number_members a f.assumptions b).1 (inl old.0), old.1))
-        (λ (e : ((b, d) ≡ (a, c)) × (c ≢ 0)).
-        ((with_number_members a f.assumptions b).1 (inr (ap (λ p. p.0) e.0)), contrary_is f.atoms b d a c bound e))
+        (λ (e : ((b, d) ≡ (a, c)) × (c ≢ 0)). (
+          (with_number_members a f.assumptions b).1 (inr (ap (λ p. p.0) e.0)),
+          contrary_is f.atoms c d bound e.1 (ap (λ p. p.1) e.0),
+        ))
         ((with_contrary_members a c f.contraries (b, d)).0 h);
     numbers_rise = ok.form.numbers_rise;
     rules_are = λ r h. let old = ok.form.rules_are r h in
@@ -165,7 +167,7 @@ with_contrary_form f a c ok none =
     (λ l. ok.form.contraries_are b d ((without_contrary_members a f.contraries (b, d)).0 l).0)
     (λ (e : ((b, d) ≡ (a, c)) × (c ≢ 0)). (
       subst (Contains f.assumptions) (sym (ap (λ p. p.0) e.0)) there,
-      contrary_is f.atoms b d a c (in_range 0 f.atoms c h.1.0).1 e,
+      contrary_is f.atoms c d (in_range 0 f.atoms c h.1.0).1 e.1 (ap (λ p. p.1) e.0),
     ))
     ((with_contrary_members a c f.contraries (b, d)).0 m))
 

@@ -1,11 +1,11 @@
 -- What the framework behind each edit is made of.
 use Rattle.std.proofs.Common.{◌≡◌, ◌+◌, ℕ, not, List, [], ◌∷◌, ◌++◌, length, ap, subst, ◌∙◌, map, filter}
-use Rattle.std.specs.Prelude.{Contains, ◌⊎◌, ◌==◌}
+use Rattle.std.specs.Prelude.{Contains, ◌⊎◌, ◌↔◌, ◌==◌}
 use Rattle.lists.specs.Members.{IsSetOf}
 use Rattle.semantics.specs.AbaFrameworks.{Aba, IsNumberedAba}
 use Rattle.aba_notions.specs.declared.rule_table.RuleLists.{RuleLists}
 use Rattle.edit_rules.proofs.NumberLists.{joined_number, equal_members}
-use Rattle.edit_rules.specs.AbaEdits.{next_rule, pair_of, rules_but, without_contrary}
+use Rattle.edit_rules.specs.AbaEdits.{next_rule, pair_of, rules_but, with_contrary, without_contrary}
 use Rattle.edit_rules.specs.AbaEdits.{aba_with_assumption, aba_without_assumption, aba_with_rule, aba_without_rule}
 use Rattle.edit_rules.specs.Parts.{AreListsOf}
 use Rattle.edit_rules.proofs.ContraryLists.{pushed_contrary}
@@ -18,9 +18,10 @@ pub all_lists : (f : Aba) (lists : RuleLists) → IsNumberedAba f → AreListsOf
 all_lists f lists ok h = subst (λ rs. AreListsOf rs lists) (all_rules f ok) h
 
 -- pairs in which a has one contrary or none, of a copy of the pairs before
-with_one : (a c : ℕ) (ps copy made : List (ℕ × ℕ)) → copy ≡ ps → made ≡ without_contrary a copy ++ pair_of a c
-    → made ≡ without_contrary a ps ++ pair_of a c
-with_one a c ps copy made e is = is ∙ ap (λ qs. without_contrary a qs ++ pair_of a c) e
+pub set_members : (a c : ℕ) (ps copy made : List (ℕ × ℕ)) → copy ≡ ps → made ≡ without_contrary a copy ++ pair_of a c
+    → (p : ℕ × ℕ) → Contains made p ↔ Contains (with_contrary a c ps) p
+set_members a c ps copy made e is =
+    pushed_contrary a c ps made (is ∙ ap (λ qs. without_contrary a qs ++ pair_of a c) e)
 
 pub parts_with_assumption : (f : Aba) (a c atoms next : ℕ) (copy more : List ℕ) (pairs made : List (ℕ × ℕ))
     (lists : RuleLists) → IsNumberedAba f → atoms ≡ f.atoms → copy ≡ f.assumptions
@@ -30,7 +31,7 @@ pub parts_with_assumption : (f : Aba) (a c atoms next : ℕ) (copy more : List �
 parts_with_assumption f a c atoms next copy more pairs made lists ok atoms_are same set of_f is rules next_is = record {
   atoms_are = atoms_are;
   assumptions_are = joined_number f.assumptions copy more a same ok.form.assumptions_rise set;
-  contraries_are = pushed_contrary a c f.contraries made (with_one a c f.contraries pairs made of_f is);
+  contraries_are = set_members a c f.contraries pairs made of_f is;
   rules_are = all_lists f lists ok rules;
   next_is = next_is;
 }

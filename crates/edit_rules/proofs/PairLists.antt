@@ -1,12 +1,12 @@
 -- Rising lists of pairs that gain or lose one.
-use Rattle.std.proofs.Common.{◌≡◌, ℕ, true, false, not, List, ◌∷◌, ap, sym, ◌∙◌, subst, ⊎_elim, inl, inr}
+use Rattle.std.proofs.Common.{◌≡◌, ℕ, true, false, not, List, [], ◌∷◌, ◌++◌, ap, sym, ◌∙◌, subst, ⊎_elim, inl, inr}
 use Rattle.std.specs.Prelude.{◌↔◌, ◌⊎◌, ◌≢◌, ◌&&◌, ◌==◌, Contains, filter}
 use Rattle.std.specs.List.{AllPairs}
 use Rattle.std.proofs.lemmas.Bool.{eqb-true, eq-eqb, false≢true, not-true, not_from_false, true≢false}
-use Rattle.std.proofs.lemmas.List.Elements.{Contains-append_cases, Contains-append_left, Contains-append_right}
+use Rattle.std.proofs.lemmas.List.Elements.{Contains-append_cases, Contains-append_left, Contains-append_right, Contains-push_cases}
 use Rattle.std.proofs.lemmas.List.Kept.{AllPairs-filter}
 use Rattle.lists.proofs.Filters.{Contains-filter}
-use Rattle.lists.proofs.Membership.{Contains-head, Contains-tail, Contains-cons_cases}
+use Rattle.lists.proofs.Membership.{Contains-head, Contains-tail, Contains-cons_cases, Contains-pushed}
 use Rattle.lists.proofs.TruthValues.{both_from}
 use Rattle.semantics.specs.Framework.{IsPairBefore}
 use Rattle.edit_rules.specs.Pairs.{has_pair, is_before, with_pair, without_pair}
@@ -47,6 +47,17 @@ with_pair_members p ps q = (
       (Contains-append_cases (filter (λ q. is_before q p) ps) (p ∷ filter (λ q. is_before p q) ps) q c),
   λ s. ⊎_elim (λ c. pair_stays p ps q c) (λ (e : q ≡ p). pair_joins p ps q (sym e)) s,
 )
+
+-- pairs that stand in no order have the same members
+pub pushed_pair : (p : ℕ × ℕ) (ps copy made : List (ℕ × ℕ)) → copy ≡ ps → made ≡ copy ++ p ∷ [] → (q : ℕ × ℕ)
+    → Contains made q ↔ Contains (with_pair p ps) q
+pushed_pair p ps copy made e is q =
+    let all : made ≡ ps ++ p ∷ [] = is ∙ ap (λ zs. zs ++ p ∷ []) e in (
+      λ c. (with_pair_members p ps q).1 (⊎_elim (λ l. inl l) (λ (same : p ≡ q). inr (sym same))
+          (Contains-push_cases ps p q (subst (λ zs. Contains zs q) all c))),
+      λ c. subst (λ zs. Contains zs q) (sym all) (⊎_elim (λ l. Contains-append_left ps (p ∷ []) q l)
+          (λ (same : q ≡ p). Contains-pushed ps p q (sym same)) ((with_pair_members p ps q).0 c)),
+    )
 
 -- a pair that isn't another passes its test
 other_pair : (p q : ℕ × ℕ) → q ≢ p → not (q.0 == p.0 && q.1 == p.1) ≡ true

@@ -9,7 +9,9 @@ use Rattle.set_lists.proofs.Rising.{IsPlaceOf, found}
 use Rattle.semantics.specs.Rules.{Rule}
 use Rattle.aba_notions.specs.Storage.{no_rule, rule_at}
 use Rattle.edit_rules.specs.Numbers.{has_number}
+use Rattle.edit_rules.specs.Pairs.{has_pair}
 use Rattle.edit_rules.proofs.EditWordTests.{is_false, number_there, there_number}
+use Rattle.edit_rules.proofs.EditTests.{pair_there, there_pair}
 use Rattle.edit_rules.specs.AbaEdits.{heads_of}
 use Rattle.lists.proofs.Images.{image_there, image_from}
 
@@ -20,6 +22,9 @@ same_test false b P x y = sym (is_false b (λ t. false≢true (x.1 (y.0 t))))
 
 pub has_number_tells : (xs : List ℕ) (x : ℕ) → (has_number xs x ≡ true) ↔ Contains xs x
 has_number_tells xs x = (number_there xs x, there_number xs x)
+
+pub has_pair_tells : (ps : List (ℕ × ℕ)) (p : ℕ × ℕ) → (has_pair ps p ≡ true) ↔ Contains ps p
+has_pair_tells ps p = (pair_there ps p, there_pair ps p)
 
 -- an atom heads a rule where the rules that it heads aren't none
 pub heads_tell : (rules : List Rule) (a : ℕ) (pairs : List (ℕ × ℕ))

@@ -15,8 +15,8 @@ pub returns : goal.returns
 returns c =
     let is = numbered_at c.args.plain.now c.rule_index-index.result c.args.number c.rule_heads-heads.ensures.form
     c.rule_index-index.ensures.within c.rule_index-index.ensures.number in
-    drop_effect_is (RuleDrop c.args.number) (rule_numbered c.args.plain.now.rules c.args.number) c.new.result _
-    c.from_vec.result c.new.ensures
+    drop_effect_is (RuleDrop c.args.number) (rule_numbered c.args.plain.now.rules c.args.number) c.new.result
+    c.new-2.result _ c.from_vec.result c.new.ensures c.new-2.ensures
     (head_at c.args.plain.now.rules c.rule_index-index.result c.rule_heads-heads.result.now
     c.rule_heads-heads.ensures.value c.rule_index-index.ensures.within ∙ ap (λ (r : Rule). r.head) (sym is))
     (c.from_vec.ensures ∙ c.in_ok-body.ensures ∙ ap (λ (r : Rule). r.body) (sym is))
