@@ -1,28 +1,37 @@
 -- What the list of the axioms that an edit calls for gains.
-use Rattle.std.proofs.Common.{Ok, Err, Result, ◌≡◌, ◌+◌, ◌⊎◌, ◌↔◌, ℕ, List, [], ◌∷◌, ◌++◌, map, arith, refl, ap, sym, subst, ◌∙◌, inl, inr, ⊎_elim}
+use Rattle.std.proofs.Common.{Ok, Err, Result, ◌≡◌, ◌<◌, ◌+◌, ◌⊎◌, ◌↔◌, ℕ, Bool, true, false, List, [], ◌∷◌, ◌++◌, map, arith, refl, ap, sym, subst, ◌∙◌, inl, inr, ⊎_elim}
 use Rattle.std.specs.Prelude.{Contains, OnOk}
-use Rattle.std.proofs.lemmas.List.Elements.{Contains-append_right}
+use Rattle.std.specs.List.{AllByRecursion}
+use Rattle.std.proofs.lemmas.Bool.{cases_eq, false≢true}
+use Rattle.std.proofs.lemmas.List.Elements.{Contains-append_cases, Contains-append_left, Contains-append_right}
 use Rattle.lists.specs.declared.memory.Memory.{Memory}
-use Rattle.lists.proofs.Membership.{Contains-cons_cases}
+use Rattle.lists.proofs.Membership.{Contains-nil, Contains-cons_cases}
 use Rattle.semantics.specs.AbaFrameworks.{Aba, IsNumberedAba}
 use Rattle.semantics.specs.Rules.{Rule}
 use Rattle.semantics.specs.Frameworks.{aba}
+use Rattle.meaning_atoms.specs.declared.atom.Closure.{Closure}
 use Rattle.meaning_atoms.specs.declared.atom.Closure.TheVariants.{Own, Rest}
 use Rattle.meaning_atoms.specs.declared.aba_axiom.AbaAxiom.{AbaAxiom}
-use Rattle.meaning_atoms.specs.declared.aba_axiom.AbaAxiom.TheVariants.{B1, B2, B3, B4, B5, B6, B7, B8, B9, B9Con, B10, B11, B12, B13, B14, B15, B16, B17}
+use Rattle.meaning_atoms.specs.declared.aba_axiom.AbaAxiom.TheVariants.{B1, B2, B3, B4, B5, B6, B7, B8, B9, B9Con, B10, B11, B12, B13, B14, B15, B16, B17, B18, B19}
 use Rattle.meaning_atoms.specs.declared.axiom.AxiomName.{AxiomName}
 use Rattle.meaning_atoms.specs.declared.axiom.AxiomName.TheVariants.{Af as OfAf, Aba as OfAba}
 use Rattle.edit_rules.specs.declared.edit.Edit.{Edit}
 use Rattle.edit_rules.specs.declared.edit.Edit.TheVariants.{ArgAdd, ArgDrop, AttackAdd, AttackDrop}
 use Rattle.edit_rules.specs.declared.effect.Effect.{Effect}
+use Rattle.edit_rules.specs.AbaEdits.{contraries_of}
+use Rattle.meaning_atoms.specs.AbaReadings.{HasContrary}
 use Rattle.oracle_face.specs.AbaNeeded.{Heads, IsBodyStep}
+use Rattle.oracle_face.specs.Walks.{IsWalkEnd, IsWalkStep}
 use Rattle.af_encoding.specs.Changes.{IsCalledFor, IsEffectOf}
 use Rattle.af_encoding.proofs.GainedLemmas.{gains_all, on_as, on_both, on_list}
-use Rattle.aba_encoding.specs.Listing.{body_end, body_step, contrary_axioms, head_end, head_step, rule_axioms, walk_along}
-use Rattle.aba_encoding.proofs.NeededLemmas.{body_ahead, body_low, body_under, by_closure, heads_low, heads_under, listed}
+use Rattle.aba_encoding.specs.Listing.{assumption_axioms, body_end, body_step, contrary_end, contrary_step, head_end, head_step, only_if, rule_axioms, walk_along}
+use Rattle.aba_encoding.proofs.NeededLemmas.{body_ahead, body_low, body_under, by_closure, heads_low, heads_under, listed, step_of}
+use Rattle.aba_encoding.proofs.NeededLemmas.{at_contrary, at_contrary_end, at_contrary_step, contrary_walk, own_axioms}
+use Rattle.aba_encoding.proofs.ContraryLemmas.{contraries_ahead, contrary_low, contrary_under}
 use Rattle.aba_encoding.proofs.WalkLemmas.{along_from, end_there, step_there, step_to}
 use Rattle.aba_encoding.specs.Brought.{Brought, GainsBrought, GainsCalled, IsNamed, IsOf}
-use Rattle.aba_encoding.specs.Brought.{by_assumption, by_contrary, by_last_rule, by_rule, by_rule_gone, by_rule_head, last_rule, nothing}
+use Rattle.aba_encoding.specs.Brought.{IsOnly, by_contrary_added, by_contrary_gone, by_contrary_past, by_contrary_set}
+use Rattle.aba_encoding.specs.Brought.{by_assumption, by_last_rule, by_rule, by_rule_gone, by_rule_head, last_rule, nothing}
 use Rattle.aba_encoding.specs.Places.{HasNoneAfter, IsNextAfter, IsPlaceBefore}
 use Rattle.aba_encoding.proofs.OutcomeLemmas.{never_taken}
 use Rattle.aba_encoding.proofs.PlaceLemmas.{next_ends, one_next, one_place}
@@ -67,80 +76,343 @@ same_two make a b x y e e' = ap (λ m. make m b) (sym e) ∙ ap (make x) (sym e'
 same_three : (make : ℕ → ℕ → ℕ → AbaAxiom) (a b c x y z : ℕ) → x ≡ a → y ≡ b → z ≡ c → make a b c ≡ make x y z
 same_three make a b c x y z e e' e'' = same_two (λ m n. make m n c) a b x y e e' ∙ ap (make x y) (sym e'')
 
--- ---- assumptions and contraries
+left : {P : Type 0} → (P ⊎ ⊥) ↔ P
+left = (λ s. ⊎_elim (λ p. p) (λ n. absurd n) s, λ p. inl p)
 
-assumption_back : (a c : ℕ) (name : AbaAxiom) → IsOf (by_assumption a c) name → Contains (contrary_axioms (a, c)) name
-assumption_back a c (B2 x) h = (0, omega arith, ap B2 (sym h))
-assumption_back a c (B3 x y) h = (1, omega arith, same_two B3 a c x y h.0 h.1)
-assumption_back a c (B9Con x y) h = (2, omega arith, same_two B9Con a c x y h.0 h.1)
-assumption_back a c (B12 x y) h = (3, omega arith, same_two B12 a c x y h.0 h.1)
-assumption_back a c (B13 x y) h = (4, omega arith, same_two B13 a c x y h.0 h.1)
-assumption_back a c (B14 x y) h = (5, omega arith, same_two B14 a c x y h.0 h.1)
-assumption_back a c (B15 x y) h = (6, omega arith, same_two B15 a c x y h.0 h.1)
-assumption_back a c (B5 k r h) is = absurd is
-assumption_back a c (B6 k r x) is = absurd is
-assumption_back a c (B7 k r i j) is = absurd is
-assumption_back a c (B8 k r i) is = absurd is
-assumption_back a c (B10 k x i j) is = absurd is
-assumption_back a c (B11 k x i) is = absurd is
-assumption_back a c _ h = absurd h
+right : {P : Type 0} → (⊥ ⊎ P) ↔ P
+right = (λ s. ⊎_elim (λ n. absurd n) (λ p. p) s, λ p. inr p)
 
-pub assumption_listed : (a c : ℕ) → AreOf (by_assumption a c) (contrary_axioms (a, c))
-assumption_listed a c name = (
-  listed (IsOf (by_assumption a c)) (contrary_axioms (a, c)) (
-    refl,
-    ((refl, refl), ((refl, refl), ((refl, refl), ((refl, refl), ((refl, refl), ((refl, refl), tt)))))),
-  ) name,
-  assumption_back a c name,
-)
+-- ---- an assumption with its contraries
 
-abbrev pub set_axioms : ℕ → ℕ → List AbaAxiom
-set_axioms a c = B3 a c ∷ B9Con a c ∷ B12 a c ∷ B13 a c ∷ B14 a c ∷ B15 a c ∷ []
+module _ (f : Aba) (form : IsNumberedAba f) (a : ℕ) where
+  it_from : (name : AbaAxiom) → Contains (assumption_axioms f a) name → IsOf (by_assumption f a) name
+  it_from name c =
+      let brought = by_assumption f a in
+      ⊎_elim (listed (IsOf brought) (own_axioms f form a) (refl, (refl, (refl, (refl, tt)))) name)
+      (λ later. ⊎_elim
+      (λ on. listed (IsOf brought) (contrary_step a on.from on.stop) (
+        (refl, on.is.stop),
+        ((refl, on.is.stop), ((refl, on.is.stop), ((refl, on.is), ((refl, on.is), tt)))),
+      ) name on.item)
+      (λ at. listed (IsOf brought) (contrary_end a at.from) ((refl, at.is), ((refl, at.is), tt)) name at.item)
+      (along_from (HasContrary f a) (contrary_low f form a) (contrary_under f form a) (contrary_step a) (contrary_end a)
+      1 (contraries_of f.contraries a) (contraries_ahead f form a) name later))
+      (Contains-append_cases (own_axioms f form a) (contrary_walk f form a) name c)
 
-contrary_back : (a c gone : ℕ) (name : AbaAxiom) → IsOf (by_contrary a c gone) name → Contains (set_axioms a c) name
-contrary_back a c gone (B3 x y) h = (0, omega arith, same_two B3 a c x y h.1 h.2)
-contrary_back a c gone (B9Con x y) h = (1, omega arith, same_two B9Con a c x y h.1 h.2)
-contrary_back a c gone (B12 x y) h = (2, omega arith, same_two B12 a c x y h.1 h.2)
-contrary_back a c gone (B13 x y) h = (3, omega arith, same_two B13 a c x y h.1 h.2)
-contrary_back a c gone (B14 x y) h = (4, omega arith, same_two B14 a c x y h.1 h.2)
-contrary_back a c gone (B15 x y) h = (5, omega arith, same_two B15 a c x y h.1 h.2)
-contrary_back a c gone (B2 x) h = absurd h
-contrary_back a c gone (B5 k r h) is = absurd is
-contrary_back a c gone (B6 k r x) is = absurd is
-contrary_back a c gone (B7 k r i j) is = absurd is
-contrary_back a c gone (B8 k r i) is = absurd is
-contrary_back a c gone (B10 k x i j) is = absurd is
-contrary_back a c gone (B11 k x i) is = absurd is
-contrary_back a c gone _ h = absurd h
+  it_back : (name : AbaAxiom) → IsOf (by_assumption f a) name → Contains (assumption_axioms f a) name
+  it_back (B2 x) is = (0, omega arith, ap B2 (sym is))
+  it_back (B3 x) is = (1, omega arith, ap B3 (sym is))
+  it_back (B14 x) is = (2, omega arith, ap B14 (sym is))
+  it_back (B15 x) is = (3, omega arith, ap B15 (sym is))
+  it_back (B9Con x c) is =
+      subst (λ m. Contains (assumption_axioms f a) (B9Con m c)) (sym is.0)
+      (at_contrary f form a c is.1 (B9Con a c) (λ i. (0, omega arith, refl)))
+  it_back (B12 x c) is =
+      subst (λ m. Contains (assumption_axioms f a) (B12 m c)) (sym is.0)
+      (at_contrary f form a c is.1 (B12 a c) (λ i. (1, omega arith, refl)))
+  it_back (B13 x c) is =
+      subst (λ m. Contains (assumption_axioms f a) (B13 m c)) (sym is.0)
+      (at_contrary f form a c is.1 (B13 a c) (λ i. (2, omega arith, refl)))
+  it_back (B18 k x i j) is =
+      subst (λ m. Contains (assumption_axioms f a) (B18 k m i j)) (sym is.0)
+      (at_contrary_step f form a i j is.1 (B18 k a i j) (step_of a i j k))
+  it_back (B19 k x i) is =
+      subst (λ m. Contains (assumption_axioms f a) (B19 k m i)) (sym is.0)
+      (at_contrary_end f form a i is.1 (B19 k a i) (by_closure (λ k'. B19 k' a i) [] [] k))
+  it_back (B5 k r h) is = absurd is
+  it_back (B6 k r x) is = absurd is
+  it_back (B7 k r i j) is = absurd is
+  it_back (B8 k r i) is = absurd is
+  it_back (B10 k x i j) is = absurd is
+  it_back (B11 k x i) is = absurd is
+  it_back _ is = absurd is
 
-pub contrary_listed : (a c gone : ℕ) → (c ≡ gone → ⊥) → AreOf (by_contrary a c gone) (set_axioms a c)
-contrary_listed a c gone other name = (
-  listed (IsOf (by_contrary a c gone)) (set_axioms a c) (
-    (other, refl, refl),
-    (
-      (other, refl, refl),
-      ((other, refl, refl), ((other, refl, refl), ((other, refl, refl), ((other, refl, refl), tt)))),
-    ),
-  ) name,
-  contrary_back a c gone name,
-)
+  pub assumption_listed : AreOf (by_assumption f a) (assumption_axioms f a)
+  assumption_listed name = (it_from name, it_back name)
 
--- the contrary that it had calls for none
-pub same_contrary : (a c gone : ℕ) → c ≡ gone → (name : AbaAxiom) → IsOf (by_contrary a c gone) name → ⊥
-same_contrary a c gone e (B2 x) h = h
-same_contrary a c gone e (B3 x y) h = h.0 e
-same_contrary a c gone e (B9Con x y) h = h.0 e
-same_contrary a c gone e (B12 x y) h = h.0 e
-same_contrary a c gone e (B13 x y) h = h.0 e
-same_contrary a c gone e (B14 x y) h = h.0 e
-same_contrary a c gone e (B15 x y) h = h.0 e
-same_contrary a c gone e (B5 k r h) is = is
-same_contrary a c gone e (B6 k r x) is = is
-same_contrary a c gone e (B7 k r i j) is = is
-same_contrary a c gone e (B8 k r i) is = is
-same_contrary a c gone e (B10 k x i j) is = is
-same_contrary a c gone e (B11 k x i) is = is
-same_contrary a c gone e _ h = h
+-- ---- a contrary alone
+
+-- an item of axioms that are listed if a condition holds
+only_from : (P : AbaAxiom → Type 0) (b : Bool) (axioms : List AbaAxiom) → (b ≡ true → AllByRecursion P axioms)
+    → (name : AbaAxiom) → Contains (only_if b axioms) name → P name
+only_from P true axioms each name c = listed P axioms (each refl) name c
+only_from P false axioms each name c = absurd (Contains-nil name c)
+
+only_there : (b : Bool) (axioms : List AbaAxiom) (name : AbaAxiom) → b ≡ true → Contains axioms name
+    → Contains (only_if b axioms) name
+only_there true axioms name is c = c
+only_there false axioms name is c = absurd (false≢true is)
+
+abbrev pub set_axioms : ℕ → ℕ → Bool → Bool → Bool → List AbaAxiom
+set_axioms a c pair step end =
+    only_if pair (B9Con a c ∷ B12 a c ∷ B13 a c ∷ [])
+    ++ (only_if step (B18 Own a 1 c ∷ B18 Rest a 1 c ∷ []) ++ only_if end (contrary_end a (c + 1)))
+
+module _ (a c : ℕ) (under : c < 1000001) where
+  only_step : (c ≡ 0 → ⊥) → IsWalkStep (IsOnly c) 1 c
+  only_step some = record {
+    start = inl refl;
+    order = omega (arith, some);
+    gap = λ y p late early. let e = p.1 in omega arith;
+    stop = (some, refl);
+  }
+
+  only_end : IsWalkEnd (IsOnly c) (c + 1)
+  only_end = record {
+    start = ⊎_elim (λ (e : c ≡ 0). inl (omega arith)) (λ some. inr (c, (some, refl), refl)) (cases_eq c 0);
+    gap = λ y p late early. let e = p.1 in omega arith;
+  }
+
+  one_only_step : (i j : ℕ) → IsWalkStep (IsOnly c) i j → (i ≡ 1) × (j ≡ c)
+  one_only_step i j is =
+      let order = is.order in
+      let stop = is.stop.1 in (
+        ⊎_elim (λ e. e) (λ s. let e = s.1.1 in let e' = s.2 in absurd (omega arith)) is.start,
+        stop,
+      )
+
+  one_only_end : (i : ℕ) → IsWalkEnd (IsOnly c) i → i ≡ c + 1
+  one_only_end i is =
+      ⊎_elim
+      (λ (e : i ≡ 1). ⊎_elim (λ (none : c ≡ 0). omega arith)
+      (λ some. absurd (is.gap c (some, refl) (omega (arith, some)) under)) (cases_eq c 0))
+      (λ s. let e = s.1.1 in let e' = s.2 in omega arith) is.start
+
+  module _ (gone : List ℕ) (pair step end : Bool)
+      (new_pair : (pair ≡ true) ↔ ((c ≡ 0 → ⊥) × (Contains gone c → ⊥)))
+      (new_step : (step ≡ true) ↔ ((c ≡ 0 → ⊥) × (IsWalkStep (Contains gone) 1 c → ⊥)))
+      (new_end : (end ≡ true) ↔ (IsWalkEnd (Contains gone) (c + 1) → ⊥)) where
+    abbrev pairs : List AbaAxiom
+    pairs = B9Con a c ∷ B12 a c ∷ B13 a c ∷ []
+
+    abbrev steps : List AbaAxiom
+    steps = B18 Own a 1 c ∷ B18 Rest a 1 c ∷ []
+
+    set_from : (name : AbaAxiom) → Contains (set_axioms a c pair step end) name → IsOf (by_contrary_set a c gone) name
+    set_from name d =
+        let brought = by_contrary_set a c gone in
+        ⊎_elim
+        (only_from (IsOf brought) pair pairs (λ t.
+        let is = new_pair.0 t in
+        ((refl, (is.0, refl), is.1), ((refl, (is.0, refl), is.1), ((refl, (is.0, refl), is.1), tt)))) name)
+        (λ later. ⊎_elim
+        (only_from (IsOf brought) step steps (λ t.
+        let is = new_step.0 t in
+        ((refl, only_step is.0, is.1), ((refl, only_step is.0, is.1), tt))) name)
+        (only_from (IsOf brought) end (contrary_end a (c + 1)) 
+        (λ t. ((refl, only_end, new_end.0 t), ((refl, only_end, new_end.0 t), tt))) name)
+        (Contains-append_cases (only_if step steps) (only_if end (contrary_end a (c + 1))) name later))
+        (Contains-append_cases (only_if pair pairs)
+        (only_if step steps ++ only_if end (contrary_end a (c + 1))) name d)
+
+    -- one of the axioms of the contrary, of the step to it, and of the end
+    at_pair : (make : ℕ → ℕ → AbaAxiom) (x y : ℕ) → (x ≡ a) × IsOnly c y × (Contains gone y → ⊥)
+        → Contains pairs (make a c) → Contains (set_axioms a c pair step end) (make x y)
+    at_pair make x y is d =
+        subst (Contains (set_axioms a c pair step end)) (same_two make a c x y is.0 is.1.1)
+        (Contains-append_left (only_if pair pairs) (only_if step steps ++ only_if end (contrary_end a (c + 1)))
+        (make a c)
+        (only_there pair pairs (make a c)
+        (new_pair.1 (is.1.0, λ old. is.2 (subst (Contains gone) (sym is.1.1) old))) d))
+
+    at_step : (k : Closure) (x i j : ℕ)
+        → (x ≡ a) × IsWalkStep (IsOnly c) i j × (IsWalkStep (Contains gone) i j → ⊥)
+        → Contains (set_axioms a c pair step end) (B18 k x i j)
+    at_step k x i j is =
+        let one = one_only_step i j is.1 in
+        subst (Contains (set_axioms a c pair step end)) (same_three (B18 k) a 1 c x i j is.0 one.0 one.1)
+        (Contains-append_right (only_if pair pairs) (only_if step steps ++ only_if end (contrary_end a (c + 1)))
+        (B18 k a 1 c)
+        (Contains-append_left (only_if step steps) (only_if end (contrary_end a (c + 1))) (B18 k a 1 c)
+        (only_there step steps (B18 k a 1 c)
+        (new_step.1 (is.1.stop.0, λ old. is.2 (subst (λ m. IsWalkStep (Contains gone) m j) (sym one.0)
+        (subst (λ m. IsWalkStep (Contains gone) 1 m) (sym one.1) old))))
+        (by_closure (λ k'. B18 k' a 1 c) [] [] k))))
+
+    at_end : (k : Closure) (x i : ℕ) → (x ≡ a) × IsWalkEnd (IsOnly c) i × (IsWalkEnd (Contains gone) i → ⊥)
+        → Contains (set_axioms a c pair step end) (B19 k x i)
+    at_end k x i is =
+        let one = one_only_end i is.1 in
+        subst (Contains (set_axioms a c pair step end)) (same_two (B19 k) a (c + 1) x i is.0 one)
+        (Contains-append_right (only_if pair pairs) (only_if step steps ++ only_if end (contrary_end a (c + 1)))
+        (B19 k a (c + 1))
+        (Contains-append_right (only_if step steps) (only_if end (contrary_end a (c + 1))) (B19 k a (c + 1))
+        (only_there end (contrary_end a (c + 1)) (B19 k a (c + 1))
+        (new_end.1 (λ old. is.2 (subst (IsWalkEnd (Contains gone)) (sym one) old)))
+        (by_closure (λ k'. B19 k' a (c + 1)) [] [] k))))
+
+    set_back : (name : AbaAxiom) → IsOf (by_contrary_set a c gone) name → Contains (set_axioms a c pair step end) name
+    set_back (B9Con x y) is = at_pair B9Con x y is (0, omega arith, refl)
+    set_back (B12 x y) is = at_pair B12 x y is (1, omega arith, refl)
+    set_back (B13 x y) is = at_pair B13 x y is (2, omega arith, refl)
+    set_back (B18 k x i j) is = at_step k x i j is
+    set_back (B19 k x i) is = at_end k x i is
+    set_back (B2 x) is = absurd is
+    set_back (B3 x) is = absurd is
+    set_back (B5 k r h) is = absurd is
+    set_back (B6 k r x) is = absurd is
+    set_back (B7 k r i j) is = absurd is
+    set_back (B8 k r i) is = absurd is
+    set_back (B10 k x i j) is = absurd is
+    set_back (B11 k x i) is = absurd is
+    set_back (B14 x) is = absurd is
+    set_back (B15 x) is = absurd is
+    set_back _ is = absurd is
+
+    pub set_listed : AreOf (by_contrary_set a c gone) (set_axioms a c pair step end)
+    set_listed name = (set_from name, set_back name)
+
+-- ---- a contrary that came or went
+
+module _ (f : Aba) (form : IsNumberedAba f) (a c : ℕ) where
+  abbrev From : ℕ → ℕ → Type 0
+  From place i = i ≡ place
+
+  beyond_last : (j : ℕ) → IsNextAfter (HasContrary f a) c j → HasNoneAfter (HasContrary f a) c → ⊥
+  beyond_last = next_ends (HasContrary f a) (contrary_low f form a) (contrary_under f form a) c
+
+  contrary_past_back : (p j : ℕ) → IsNextAfter (HasContrary f a) c j → (name : AbaAxiom)
+      → IsOf (by_contrary_past f a c (From p)) name → Contains (B18 Own a p j ∷ B18 Rest a p j ∷ []) name
+  contrary_past_back p j next (B18 k x s m) is =
+      subst (Contains (B18 Own a p j ∷ B18 Rest a p j ∷ [])) (same_three (B18 k) a p j x s m is.0 is.1
+      (one_next (HasContrary f a) (contrary_low f form a) (contrary_under f form a) c j m next is.2))
+      (by_closure (λ k'. B18 k' a p j) [] [] k)
+  contrary_past_back p j next (B19 k x s) is = absurd (beyond_last j next is.2)
+  contrary_past_back p j next (B2 x) is = absurd is
+  contrary_past_back p j next (B3 x) is = absurd is
+  contrary_past_back p j next (B5 k r x) is = absurd is
+  contrary_past_back p j next (B6 k r x) is = absurd is
+  contrary_past_back p j next (B7 k r s m) is = absurd is
+  contrary_past_back p j next (B8 k r s) is = absurd is
+  contrary_past_back p j next (B9Con x y) is = absurd is
+  contrary_past_back p j next (B10 k x s m) is = absurd is
+  contrary_past_back p j next (B11 k x s) is = absurd is
+  contrary_past_back p j next (B12 x y) is = absurd is
+  contrary_past_back p j next (B13 x y) is = absurd is
+  contrary_past_back p j next (B14 x) is = absurd is
+  contrary_past_back p j next (B15 x) is = absurd is
+  contrary_past_back p j next _ is = absurd is
+
+  pub contrary_past_listed : (p j : ℕ) → IsNextAfter (HasContrary f a) c j
+      → AreOf (by_contrary_past f a c (From p)) (B18 Own a p j ∷ B18 Rest a p j ∷ [])
+  contrary_past_listed p j next name = (
+    listed (IsOf (by_contrary_past f a c (From p))) (B18 Own a p j ∷ B18 Rest a p j ∷ [])
+        ((refl, refl, next), ((refl, refl, next), tt)) name,
+    contrary_past_back p j next name,
+  )
+
+  contrary_last_back : (p : ℕ) → HasNoneAfter (HasContrary f a) c → (name : AbaAxiom)
+      → IsOf (by_contrary_past f a c (From p)) name → Contains (contrary_end a p) name
+  contrary_last_back p none (B19 k x s) is =
+      subst (Contains (contrary_end a p)) (same_two (B19 k) a p x s is.0 is.1) (by_closure (λ k'. B19 k' a p) [] [] k)
+  contrary_last_back p none (B18 k x s m) is = absurd (beyond_last m is.2 none)
+  contrary_last_back p none (B2 x) is = absurd is
+  contrary_last_back p none (B3 x) is = absurd is
+  contrary_last_back p none (B5 k r x) is = absurd is
+  contrary_last_back p none (B6 k r x) is = absurd is
+  contrary_last_back p none (B7 k r s m) is = absurd is
+  contrary_last_back p none (B8 k r s) is = absurd is
+  contrary_last_back p none (B9Con x y) is = absurd is
+  contrary_last_back p none (B10 k x s m) is = absurd is
+  contrary_last_back p none (B11 k x s) is = absurd is
+  contrary_last_back p none (B12 x y) is = absurd is
+  contrary_last_back p none (B13 x y) is = absurd is
+  contrary_last_back p none (B14 x) is = absurd is
+  contrary_last_back p none (B15 x) is = absurd is
+  contrary_last_back p none _ is = absurd is
+
+  pub contrary_last_listed : (p : ℕ) → HasNoneAfter (HasContrary f a) c
+      → AreOf (by_contrary_past f a c (From p)) (contrary_end a p)
+  contrary_last_listed p none name = (
+    listed (IsOf (by_contrary_past f a c (From p))) (contrary_end a p) ((refl, refl, none), ((refl, refl, none), tt))
+        name,
+    contrary_last_back p none name,
+  )
+
+  module _ (start : ℕ) (place : IsPlaceBefore (HasContrary f a) c start) where
+    one_place_is : (k : ℕ) → IsPlaceBefore (HasContrary f a) c k → k ≡ start
+    one_place_is k other = one_place (HasContrary f a) (contrary_low f form a) (contrary_under f form a) c start k place other
+
+    same_place : (k : ℕ) → k ≡ start → IsPlaceBefore (HasContrary f a) c k
+    same_place k e = subst (IsPlaceBefore (HasContrary f a) c) (sym e) place
+
+    -- from the place that was found is from where the walk comes
+    found_place : (name : AxiomName) → IsNamed (by_contrary_past f a c (From start)) name
+        ↔ IsNamed (by_contrary_gone f a c) name
+    found_place (OfAba (B18 k x i j)) = (
+      λ h. (h.0, same_place i h.1, h.2),
+      λ h. (h.0, one_place_is i h.1, h.2),
+    )
+    found_place (OfAba (B19 k x i)) = (
+      λ h. (h.0, same_place i h.1, h.2),
+      λ h. (h.0, one_place_is i h.1, h.2),
+    )
+    found_place (OfAba _) = (λ h. h, λ h. h)
+    found_place (OfAf _) = (λ h. h, λ h. h)
+
+    pub on_gone : (old new : List AxiomName) (r : Result Unit Memory)
+        → OnOk r (GainsBrought (by_contrary_past f a c (From start)) old new)
+        → OnOk r (GainsBrought (by_contrary_gone f a c) old new)
+    on_gone old new r = on_as _ _ old new r found_place
+
+    -- the contrary with the step to it
+    abbrev to_contrary : Brought
+    to_contrary = record {
+      assumption = λ x. ⊥;
+      contrary = λ x y. (x ≡ a) × (y ≡ c);
+      contrary_step = λ x i j. (x ≡ a) × IsPlaceBefore (HasContrary f a) c i × (j ≡ c);
+      contrary_end = λ x i. ⊥;
+      rule = λ r P. ⊥;
+      step = λ x i j. ⊥;
+      end = λ x i. ⊥;
+    }
+
+    to_back : (name : AbaAxiom) → IsOf to_contrary name → Contains (contrary_step a start c) name
+    to_back (B9Con x y) is = (0, omega arith, same_two B9Con a c x y is.0 is.1)
+    to_back (B12 x y) is = (1, omega arith, same_two B12 a c x y is.0 is.1)
+    to_back (B13 x y) is = (2, omega arith, same_two B13 a c x y is.0 is.1)
+    to_back (B18 k x i j) is =
+        subst (Contains (contrary_step a start c)) (same_three (B18 k) a start c x i j is.0 (one_place_is i is.1) is.2)
+        (step_of a start c k)
+    to_back (B2 x) is = absurd is
+    to_back (B3 x) is = absurd is
+    to_back (B5 k r x) is = absurd is
+    to_back (B6 k r x) is = absurd is
+    to_back (B7 k r s m) is = absurd is
+    to_back (B8 k r s) is = absurd is
+    to_back (B10 k x s m) is = absurd is
+    to_back (B11 k x s) is = absurd is
+    to_back (B14 x) is = absurd is
+    to_back (B15 x) is = absurd is
+    to_back (B19 k x s) is = absurd is
+    to_back _ is = absurd is
+
+    to_listed : AreOf to_contrary (contrary_step a start c)
+    to_listed name = (
+      listed (IsOf to_contrary) (contrary_step a start c)
+          ((refl, refl), ((refl, refl), ((refl, refl), ((refl, place, refl), ((refl, place, refl), tt))))) name,
+      to_back name,
+    )
+
+    to_and_past : (name : AxiomName)
+        → (IsNamed to_contrary name ⊎ IsNamed (by_contrary_past f a c (From (c + 1))) name)
+        ↔ IsNamed (by_contrary_added f a c) name
+    to_and_past (OfAba (B18 k x i j)) = (
+      λ s. ⊎_elim (λ h. (h.0, inl (h.1, h.2))) (λ h. (h.0, inr (h.1, h.2))) s,
+      λ h. ⊎_elim (λ w. inl (h.0, w.0, w.1)) (λ w. inr (h.0, w.0, w.1)) h.1,
+    )
+    to_and_past (OfAba (B19 k x i)) = right
+    to_and_past (OfAba _) = left
+    to_and_past (OfAf _) = left
+
+    pub on_added : (old mid new : List AxiomName) (r : Result Unit Memory)
+        → mid ≡ old ++ map OfAba (contrary_step a start c)
+        → OnOk r (GainsBrought (by_contrary_past f a c (From (c + 1))) mid new)
+        → OnOk r (GainsBrought (by_contrary_added f a c) old new)
+    on_added old mid new r first second =
+        on_as _ _ old new r to_and_past
+        (on_both (IsNamed to_contrary) (IsNamed (by_contrary_past f a c (From (c + 1)))) old mid new
+        (map OfAba (contrary_step a start c)) r (named to_contrary (contrary_step a start c) to_listed) first second)
 
 -- ---- a rule
 
@@ -199,14 +471,16 @@ module _ (f : Aba) (form : IsNumberedAba f) (r : Rule) (there : Contains f.rules
       (body_end r.number) 1 r.body (body_ahead f form r there) i is.1 (B8 k r.number i)
       (by_closure (λ k'. B8 k' r.number i) [] [] k)))
   rule_back (B2 x) is = absurd is
-  rule_back (B3 x y) is = absurd is
+  rule_back (B3 x) is = absurd is
   rule_back (B9Con x y) is = absurd is
   rule_back (B10 k x i j) is = absurd is
   rule_back (B11 k x i) is = absurd is
   rule_back (B12 x y) is = absurd is
   rule_back (B13 x y) is = absurd is
-  rule_back (B14 x y) is = absurd is
-  rule_back (B15 x y) is = absurd is
+  rule_back (B14 x) is = absurd is
+  rule_back (B15 x) is = absurd is
+  rule_back (B18 k x s m) is = absurd is
+  rule_back (B19 k x s) is = absurd is
   rule_back _ is = absurd is
 
   pub rule_listed : AreOf (by_rule r) (rule_axioms r)
@@ -229,7 +503,7 @@ module _ (f : Aba) (form : IsNumberedAba f) (h n i : ℕ) (place : IsPlaceBefore
       subst (Contains round_axioms) (same_two (B11 k) h (n + 1) x s is.0 is.1)
       (by_closure (λ k'. B11 k' h (n + 1)) (head_step h i n) [] k)
   round_back (B2 x) is = absurd is
-  round_back (B3 x y) is = absurd is
+  round_back (B3 x) is = absurd is
   round_back (B5 k r x) is = absurd is
   round_back (B6 k r x) is = absurd is
   round_back (B7 k r s j) is = absurd is
@@ -237,8 +511,10 @@ module _ (f : Aba) (form : IsNumberedAba f) (h n i : ℕ) (place : IsPlaceBefore
   round_back (B9Con x y) is = absurd is
   round_back (B12 x y) is = absurd is
   round_back (B13 x y) is = absurd is
-  round_back (B14 x y) is = absurd is
-  round_back (B15 x y) is = absurd is
+  round_back (B14 x) is = absurd is
+  round_back (B15 x) is = absurd is
+  round_back (B18 k x s m) is = absurd is
+  round_back (B19 k x s) is = absurd is
   round_back _ is = absurd is
 
   pub round_listed : AreOf (by_rule_head f h n) round_axioms
@@ -261,7 +537,7 @@ module _ (f : Aba) (form : IsNumberedAba f) (h n i : ℕ) (place : IsPlaceBefore
       (by_closure (λ k'. B10 k' h i j) [] [] k)
   past_back j next (B11 k x s) is = absurd (ends j next is.2)
   past_back j next (B2 x) is = absurd is
-  past_back j next (B3 x y) is = absurd is
+  past_back j next (B3 x) is = absurd is
   past_back j next (B5 k r x) is = absurd is
   past_back j next (B6 k r x) is = absurd is
   past_back j next (B7 k r s m) is = absurd is
@@ -269,8 +545,10 @@ module _ (f : Aba) (form : IsNumberedAba f) (h n i : ℕ) (place : IsPlaceBefore
   past_back j next (B9Con x y) is = absurd is
   past_back j next (B12 x y) is = absurd is
   past_back j next (B13 x y) is = absurd is
-  past_back j next (B14 x y) is = absurd is
-  past_back j next (B15 x y) is = absurd is
+  past_back j next (B14 x) is = absurd is
+  past_back j next (B15 x) is = absurd is
+  past_back j next (B18 k x s m) is = absurd is
+  past_back j next (B19 k x s) is = absurd is
   past_back j next _ is = absurd is
 
   pub past_listed : (j : ℕ) → IsNextAfter (Heads f h) n j → AreOf (by_rule_gone f h n) (head_step h i j)
@@ -286,7 +564,7 @@ module _ (f : Aba) (form : IsNumberedAba f) (h n i : ℕ) (place : IsPlaceBefore
       (by_closure (λ k'. B11 k' h i) [] [] k)
   last_back none (B10 k x s m) is = absurd (ends m is.2 none)
   last_back none (B2 x) is = absurd is
-  last_back none (B3 x y) is = absurd is
+  last_back none (B3 x) is = absurd is
   last_back none (B5 k r x) is = absurd is
   last_back none (B6 k r x) is = absurd is
   last_back none (B7 k r s m) is = absurd is
@@ -294,8 +572,10 @@ module _ (f : Aba) (form : IsNumberedAba f) (h n i : ℕ) (place : IsPlaceBefore
   last_back none (B9Con x y) is = absurd is
   last_back none (B12 x y) is = absurd is
   last_back none (B13 x y) is = absurd is
-  last_back none (B14 x y) is = absurd is
-  last_back none (B15 x y) is = absurd is
+  last_back none (B14 x) is = absurd is
+  last_back none (B15 x) is = absurd is
+  last_back none (B18 k x s m) is = absurd is
+  last_back none (B19 k x s) is = absurd is
   last_back none _ is = absurd is
 
   pub last_listed : HasNoneAfter (Heads f h) n → AreOf (by_rule_gone f h n) (head_end h i)
@@ -310,16 +590,10 @@ module _ (f : Aba) (h : ℕ) where
   abbrev Either : AbaAxiom → Type 0
   Either name = IsOf (by_rule (last_rule f)) name ⊎ IsOf (by_rule_head f h (last_rule f).number) name
 
-  left : {P : Type 0} → (P ⊎ ⊥) ↔ P
-  left = (λ s. ⊎_elim (λ p. p) (λ n. absurd n) s, λ p. inl p)
-
-  right : {P : Type 0} → (⊥ ⊎ P) ↔ P
-  right = (λ s. ⊎_elim (λ n. absurd n) (λ p. p) s, λ p. inr p)
-
   both : (name : AbaAxiom) → Either name ↔ IsOf (by_last_rule f h) name
   both (B1 a) = left
   both (B2 a) = left
-  both (B3 a c) = left
+  both (B3 a) = left
   both (B4 k) = left
   both (B5 k r x) = left
   both (B6 k r x) = left
@@ -331,10 +605,12 @@ module _ (f : Aba) (h : ℕ) where
   both (B11 k x i) = right
   both (B12 a c) = left
   both (B13 a c) = left
-  both (B14 a c) = left
-  both (B15 a c) = left
+  both (B14 a) = left
+  both (B15 a) = left
   both (B16 part) = left
   both (B17 k x rows) = left
+  both (B18 k a i j) = left
+  both (B19 k a i) = left
 
   both_named : (name : AxiomName)
       → (IsNamed (by_rule (last_rule f)) name ⊎ IsNamed (by_rule_head f h (last_rule f).number) name)
@@ -380,7 +656,7 @@ none_called g effect names same f ok of =
   where
     never : (name : AbaAxiom) → IsOf nothing name → ⊥
     never (B2 a) h = h
-    never (B3 a c) h = h
+    never (B3 a) h = h
     never (B5 k r x) h = h
     never (B6 k r x) h = h
     never (B7 k r i j) h = h
@@ -390,8 +666,10 @@ none_called g effect names same f ok of =
     never (B11 k x i) h = h
     never (B12 a c) h = h
     never (B13 a c) h = h
-    never (B14 a c) h = h
-    never (B15 a c) h = h
+    never (B14 a) h = h
+    never (B15 a) h = h
+    never (B18 k a i j) h = h
+    never (B19 k a i) h = h
     never _ h = h
 
 -- an edit of abstract frameworks

@@ -23,7 +23,7 @@ abbrev pub number_of : Rule → ℕ
 number_of r = r.number
 
 -- numbers that rise don't fall
-not_falling : {X : Type 0} (key : X → ℕ) (xs : List X)
+pub not_falling : {X : Type 0} (key : X → ℕ) (xs : List X)
     → ((i j : ℕ) (d : X) → i < j → j < length xs → key (get_or xs i d) < key (get_or xs j d))
     → IsNonDecreasingBy key xs
 not_falling key xs rise i j d le lt =

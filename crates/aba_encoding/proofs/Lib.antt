@@ -11,8 +11,10 @@ pub mod OrderLemmas
 pub mod Enumerated
 pub mod PlaceLemmas
 pub mod HeadLemmas
+pub mod ContraryPlaces
 pub mod LastRules
 pub mod WalkChanges
+pub mod SetLemmas
 pub mod BroughtLemmas
 pub mod EditsBring
 pub mod OutcomeLemmas

@@ -45,6 +45,9 @@ by_closure make front back Own =
 by_closure make front back Rest =
     Contains-append_right front (make Own ∷ make Rest ∷ back) (make Rest) (1, omega arith, refl)
 
+pub step_of : (a i j : ℕ) (k : Closure) → Contains (contrary_step a i j) (B18 k a i j)
+step_of a i j k = by_closure (λ k'. B18 k' a i j) (B9Con a j ∷ B12 a j ∷ B13 a j ∷ []) [] k
+
 module _ (f : Aba) (form : IsNumberedAba f) where
   -- ---- the bodies of rules
 
@@ -104,10 +107,10 @@ module _ (f : Aba) (form : IsNumberedAba f) where
     ),
   )
 
-  abbrev own_axioms : ℕ → List AbaAxiom
+  abbrev pub own_axioms : ℕ → List AbaAxiom
   own_axioms a = B2 a ∷ B3 a ∷ B14 a ∷ B15 a ∷ []
 
-  abbrev contrary_walk : ℕ → List AbaAxiom
+  abbrev pub contrary_walk : ℕ → List AbaAxiom
   contrary_walk a = walk_along (contrary_step a) (contrary_end a) 1 (contraries_of f.contraries a)
 
   assumption_from : (a : ℕ) → Contains f.assumptions a → (name : AbaAxiom) → Contains (assumption_axioms f a) name
@@ -228,21 +231,32 @@ module _ (f : Aba) (form : IsNumberedAba f) where
       (Contains-append_right (flat_map rule_axioms f.rules) _ name
       (in_flat (atom_axioms f) (range_with_len 1 f.atoms) x name (range_there x atom) d)))
 
-  in_contrary_step : (a : ℕ) → Contains f.assumptions a → (i j : ℕ) → IsWalkStep (HasContrary f a) i j
-      → (name : AbaAxiom) → Contains (contrary_step a i j) name → Contains (listed_axioms f) name
-  in_contrary_step a of i j is name c =
-      in_assumption a of name
-      (Contains-append_right (own_axioms a) (contrary_walk a) name
+  -- what is listed for an assumption: at a step of the walk along its contraries, at the step to one, and at the end
+  pub at_contrary_step : (a i j : ℕ) → IsWalkStep (HasContrary f a) i j → (name : AbaAxiom)
+      → Contains (contrary_step a i j) name → Contains (assumption_axioms f a) name
+  at_contrary_step a i j is name c =
+      Contains-append_right (own_axioms a) (contrary_walk a) name
       (step_there (HasContrary f a) (contrary_low f form a) (contrary_under f form a) (contrary_step a) (contrary_end a)
-      1 (contraries_of f.contraries a) (contraries_ahead f form a) i j is (contrary_low f form a j is.stop) name c))
+      1 (contraries_of f.contraries a) (contraries_ahead f form a) i j is (contrary_low f form a j is.stop) name c)
 
-  -- what stands at the step to a contrary
+  pub at_contrary : (a c : ℕ) → HasContrary f a c → (name : AbaAxiom)
+      → ((i : ℕ) → Contains (contrary_step a i c) name) → Contains (assumption_axioms f a) name
+  at_contrary a c con name there =
+      let w = step_to (HasContrary f a) (contrary_low f form a) (contrary_under f form a) 1
+      (contraries_of f.contraries a) (contraries_ahead f form a) c con (contrary_low f form a c con) in
+      at_contrary_step a w.0 c w.1 name (there w.0)
+
+  pub at_contrary_end : (a i : ℕ) → IsWalkEnd (HasContrary f a) i → (name : AbaAxiom)
+      → Contains (contrary_end a i) name → Contains (assumption_axioms f a) name
+  at_contrary_end a i is name c =
+      Contains-append_right (own_axioms a) (contrary_walk a) name
+      (end_there (HasContrary f a) (contrary_low f form a) (contrary_under f form a) (contrary_step a) (contrary_end a)
+      1 (contraries_of f.contraries a) (contraries_ahead f form a) i is name c)
+
   in_contrary : (a c : ℕ) → HasContrary f a c → (name : AbaAxiom)
       → ((i : ℕ) → Contains (contrary_step a i c) name) → Contains (listed_axioms f) name
   in_contrary a c con name there =
-      let w = step_to (HasContrary f a) (contrary_low f form a) (contrary_under f form a) 1
-      (contraries_of f.contraries a) (contraries_ahead f form a) c con (contrary_low f form a c con) in
-      in_contrary_step a (form.form.contraries_are a c con).0 w.0 c w.1 name (there w.0)
+      in_assumption a (form.form.contraries_are a c con).0 name (at_contrary a c con name there)
 
   in_body_step : (r : Rule) → Contains f.rules r → (i j : ℕ) → IsWalkStep (Contains r.body) i j → (name : AbaAxiom)
       → Contains (body_step r.number i j) name → Contains (listed_axioms f) name
@@ -323,14 +337,10 @@ module _ (f : Aba) (form : IsNumberedAba f) where
       (cases_eq part 2)) (cases_eq part 1)
   listed_to (B17 k x rows) h = absurd h
   listed_to (B18 k a i j) h =
-      in_contrary_step a h.0 i j h.1 (B18 k a i j)
-      (by_closure (λ k'. B18 k' a i j) (B9Con a j ∷ B12 a j ∷ B13 a j ∷ []) [] k)
+      in_assumption a h.0 (B18 k a i j) (at_contrary_step a i j h.1 (B18 k a i j) (step_of a i j k))
   listed_to (B19 k a i) h =
       in_assumption a h.0 (B19 k a i)
-      (Contains-append_right (own_axioms a) (contrary_walk a) (B19 k a i)
-      (end_there (HasContrary f a) (contrary_low f form a) (contrary_under f form a) (contrary_step a) (contrary_end a) 1
-      (contraries_of f.contraries a) (contraries_ahead f form a) i h.1 (B19 k a i)
-      (by_closure (λ k'. B19 k' a i) [] [] k)))
+      (at_contrary_end a i h.1 (B19 k a i) (by_closure (λ k'. B19 k' a i) [] [] k))
 
   -- ---- what is needed is an axiom
 

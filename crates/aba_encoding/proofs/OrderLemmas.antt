@@ -17,7 +17,8 @@ use Rattle.meaning_atoms.specs.declared.axiom.AxiomName.TheVariants.{Af as OfAf,
 use Rattle.af_encoding.proofs.EnumerationLemmas.{all_of_members, pairs_tail}
 use Rattle.aba_encoding.specs.Listing.{assumption_axioms, atom_axioms, body_end, body_step, common_axioms, contrary_end, contrary_step, head_end, head_step, heading, listed_axioms, rule_axioms, walk_along}
 use Rattle.edit_rules.specs.AbaEdits.{contraries_of}
-use Rattle.aba_encoding.proofs.ContraryLemmas.{contraries_are, contraries_rise, contrary_low, contrary_under}
+use Rattle.edit_rules.proofs.ContraryLists.{contraries_of_members}
+use Rattle.aba_encoding.proofs.ContraryLemmas.{contraries_rise, contrary_low, contrary_under}
 use Rattle.aba_encoding.proofs.ListingLemmas.{heading_are, heading_rises}
 use Rattle.aba_encoding.proofs.WalkLemmas.{later_more}
 use Rattle.lists.proofs.RisingLists.{keys_rise}
@@ -143,7 +144,7 @@ module _ (f : Aba) (form : IsNumberedAba f) where
               (rank_of (B15 a) + 1) 1 (contraries_of f.contraries a)
               (AllPairs-from_increasing (contraries_of f.contraries a) (contraries_rise f form a)) (omega arith)
               (λ c d.
-              let con = (contraries_are f a c).0 d in
+              let con = (contraries_of_members f.contraries a c).0 d in
               let low = contrary_low f form a c con in
               let under = contrary_under f form a c con in
               (omega arith, under)),

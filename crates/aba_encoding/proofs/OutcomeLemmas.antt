@@ -21,7 +21,7 @@ use Rattle.std.proofs.Common.{
   ◌∙◌,
 }
 use Rattle.std.specs.Prelude.{Contains, is_ok}
-use Rattle.std.proofs.lemmas.Bool.{false≢true}
+use Rattle.std.proofs.lemmas.Bool.{false≢true, not-false}
 use Rattle.std.proofs.lemmas.List.{get_or_push, length_push}
 use Rattle.semantics.specs.AbaFrameworks.{Aba, IsNumberedAba}
 use Rattle.semantics.specs.Rules.{Rule}
@@ -29,7 +29,7 @@ use Rattle.aba_notions.specs.Storage.{no_rule, rule_at}
 use Rattle.semantics.specs.Frameworks.{Framework, af, aba}
 use Rattle.meaning_atoms.specs.declared.axiom.AxiomName.{AxiomName}
 use Rattle.edit_rules.specs.declared.edit.Edit.{Edit}
-use Rattle.edit_rules.specs.declared.edit.Edit.TheVariants.{ArgAdd, ArgDrop, AttackAdd, AttackDrop, AsmAdd, AsmDrop, ConSet, RuleAdd, RuleDrop}
+use Rattle.edit_rules.specs.declared.edit.Edit.TheVariants.{ArgAdd, ArgDrop, AttackAdd, AttackDrop, AsmAdd, AsmDrop, ConSet, ConAdd, ConDrop, RuleAdd, RuleDrop}
 use Rattle.edit_rules.specs.declared.effect.Effect.{Effect}
 use Rattle.edit_rules.specs.declared.effect.EditFault.{EditFault}
 use Rattle.edit_rules.specs.declared.effect.EditFault.TheVariants.{WrongKind}
@@ -37,13 +37,18 @@ use Rattle.edit_rules.proofs.EditWordTests.{absent}
 use Rattle.edit_rules.proofs.RefusalLemmas.{EachPasses, done_passes, done_row}
 use Rattle.edit_rules.proofs.AbaOutcomes.{aba_edit_outcome, any_outcome}
 use Rattle.edit_rules.specs.AbaEdits.{AbaRow, aba_outcome, aba_row_outcome, next_rule, numbers_of}
-use Rattle.edit_rules.specs.AbaEdits.{assumption_added, assumption_dropped, contrary_set, rule_added, rule_dropped}
-use Rattle.edit_rules.proofs.AbaRowForms.{rule_for}
+use Rattle.edit_rules.specs.AbaEdits.{assumption_added, assumption_dropped, contrary_added, contrary_dropped, contrary_set, rule_added, rule_dropped}
+use Rattle.edit_rules.proofs.AbaRowForms.{in_range, rule_for}
+use Rattle.edit_rules.proofs.ContraryLists.{contraries_of_members}
+use Rattle.edit_rules.proofs.EditTests.{pair_there, there_pair}
 use Rattle.edit_rules.proofs.RuleLists.{numbered_is}
 use Rattle.af_encoding.specs.Changes.{IsCalledFor, IsEffectOf}
-use Rattle.aba_encoding.specs.Brought.{by_assumption, by_contrary, by_last_rule, by_rule, by_rule_gone, by_rule_head, IsNamed, nothing}
+use Rattle.aba_encoding.specs.Brought.{by_assumption, by_last_rule, by_rule, by_rule_gone, by_rule_head, IsNamed, nothing}
+use Rattle.aba_encoding.specs.Brought.{AreAtoms, by_contrary_added, by_contrary_gone, by_contrary_set}
 use Rattle.aba_encoding.proofs.BroughtLemmas.{called}
-use Rattle.aba_encoding.proofs.EditsBring.{assumption_brings, assumption_gone, contrary_brings, rule_brings, rule_gone_brings}
+use Rattle.aba_encoding.proofs.EditsBring.{assumption_brings, assumption_gone, rule_brings, rule_gone_brings}
+use Rattle.aba_encoding.proofs.EditsBring.{added_brings, contrary_gone_brings, set_brings}
+use Rattle.aba_encoding.proofs.ContraryLemmas.{contraries_rise, contrary_low, contrary_under}
 use Rattle.lists.proofs.Images.{image_from}
 use Rattle.edit_rules.proofs.DetermineLemmas.{there}
 
@@ -74,6 +79,8 @@ own_edit f (AttackDrop b a) g effect is = absurd (false≢true (ap is_ok is))
 own_edit f (AsmAdd a c) g effect is = row_edit (assumption_added f a c) g effect is
 own_edit f (AsmDrop a) g effect is = row_edit (assumption_dropped f a) g effect is
 own_edit f (ConSet a c) g effect is = row_edit (contrary_set f a c) g effect is
+own_edit f (ConAdd a c) g effect is = row_edit (contrary_added f a c) g effect is
+own_edit f (ConDrop a c) g effect is = row_edit (contrary_dropped f a c) g effect is
 own_edit f (RuleAdd h body) g effect is = row_edit (rule_added f h body) g effect is
 own_edit f (RuleDrop r) g effect is = row_edit (rule_dropped f r) g effect is
 
@@ -104,12 +111,11 @@ made row g effect is =
 
 pub assumption_called : (f g : Aba) (a c : ℕ) (effect : Effect) → IsNumberedAba f
     → aba_outcome f (AsmAdd a c) ≡ Ok (g, effect) → (name : AxiomName)
-    → IsNamed (by_assumption a c) name ↔ IsCalledFor (aba f) (aba g) name
+    → IsNamed (by_assumption g a) name ↔ IsCalledFor (aba f) (aba g) name
 assumption_called f g a c effect ok is =
     let row = made (assumption_added f a c) g effect is in
-    subst (λ h. (name : AxiomName) → IsNamed (by_assumption a c) name ↔ IsCalledFor (aba f) (aba h) name)
-    row.framework
-    (called f _ (by_assumption a c) (assumption_brings f a c ok (absent f.assumptions a row.none.1.1.0)))
+    subst (λ h. (name : AxiomName) → IsNamed (by_assumption h a) name ↔ IsCalledFor (aba f) (aba h) name)
+    row.framework (called f _ _ (assumption_brings f a c ok (absent f.assumptions a row.none.1.1.0)))
 
 pub drop_called : (f g : Aba) (a : ℕ) (effect : Effect) → aba_outcome f (AsmDrop a) ≡ Ok (g, effect)
     → (name : AxiomName) → IsNamed nothing name ↔ IsCalledFor (aba f) (aba g) name
@@ -118,15 +124,82 @@ drop_called f g a effect is =
     subst (λ h. (name : AxiomName) → IsNamed nothing name ↔ IsCalledFor (aba f) (aba h) name)
     row.framework (called f _ nothing (assumption_gone f a))
 
-pub contrary_called : (f g : Aba) (a c : ℕ) (effect : Effect) → IsNumberedAba f
-    → aba_outcome f (ConSet a c) ≡ Ok (g, effect) → (name : AxiomName)
-    → IsNamed (by_contrary a c effect.gone) name ↔ IsCalledFor (aba f) (aba g) name
-contrary_called f g a c effect ok is =
+-- what an edit of contraries says of its numbers
+pub record IsPairOf (f : Aba) (a c : ℕ) : Type 0 where
+  pub there : Contains f.assumptions a
+  pub low : 1 ≤ c
+  pub under : c < 1000001
+
+pub set_called : (f g : Aba) (a c : ℕ) (effect : Effect) → aba_outcome f (ConSet a c) ≡ Ok (g, effect)
+    → (name : AxiomName) → IsNamed (by_contrary_set a c effect.gone) name ↔ IsCalledFor (aba f) (aba g) name
+set_called f g a c effect is =
     let row = made (contrary_set f a c) g effect is in
-    subst (λ h. (name : AxiomName) → IsNamed (by_contrary a c effect.gone) name ↔ IsCalledFor (aba f) (aba h) name)
+    subst (λ h. (name : AxiomName) → IsNamed (by_contrary_set a c effect.gone) name
+    ↔ IsCalledFor (aba f) (aba h) name)
     row.framework
-    (called f _ (by_contrary a c effect.gone) (contrary_brings f a c effect.gone ok
-    (there f.assumptions a row.none.1.1.0) (sym (ap (λ e. e.gone) row.effect_is))))
+    (called f _ _ (set_brings f a c effect.gone (there f.assumptions a row.none.1.1.0)
+    (sym (ap (λ e. e.gone) row.effect_is))))
+
+pub set_under : (f g : Aba) (a c : ℕ) (effect : Effect) → IsNumberedAba f
+    → aba_outcome f (ConSet a c) ≡ Ok (g, effect) → c < 1000001
+set_under f g a c effect ok is =
+    let row = made (contrary_set f a c) g effect is in
+    let range = in_range 0 f.atoms c row.none.1.0 in
+    let high = range.1 in
+    let most = ok.atoms in
+    omega arith
+
+pub set_gone : (f g : Aba) (a c : ℕ) (effect : Effect) → IsNumberedAba f
+    → aba_outcome f (ConSet a c) ≡ Ok (g, effect) → AreAtoms effect.gone
+set_gone f g a c effect ok is =
+    let row = made (contrary_set f a c) g effect is in
+    subst AreAtoms (ap (λ e. e.gone) row.effect_is) (record {
+      rise = contraries_rise f ok a;
+      each = λ y d.
+          let con = (contraries_of_members f.contraries a y).0 d in
+          let under = contrary_under f ok a y con in
+          record { low = contrary_low f ok a y con; high = omega arith };
+    })
+
+pub added_pair : (f g : Aba) (a c : ℕ) (effect : Effect) → IsNumberedAba f
+    → aba_outcome f (ConAdd a c) ≡ Ok (g, effect) → IsPairOf f a c
+added_pair f g a c effect ok is =
+    let row = made (contrary_added f a c) g effect is in
+    let range = in_range 1 f.atoms c row.none.1.0 in
+    let high = range.1 in
+    let most = ok.atoms in
+    record { there = there f.assumptions a row.none.1.1.0; low = range.0; under = omega arith }
+
+pub added_called : (f g : Aba) (a c : ℕ) (effect : Effect) → IsNumberedAba f
+    → aba_outcome f (ConAdd a c) ≡ Ok (g, effect) → (name : AxiomName)
+    → IsNamed (by_contrary_added g a c) name ↔ IsCalledFor (aba f) (aba g) name
+added_called f g a c effect ok is =
+    let row = made (contrary_added f a c) g effect is in
+    let pair = added_pair f g a c effect ok is in
+    subst (λ h. (name : AxiomName) → IsNamed (by_contrary_added h a c) name ↔ IsCalledFor (aba f) (aba h) name)
+    row.framework
+    (called f _ _ (added_brings f a c pair.there pair.low
+    (λ old. false≢true (sym row.none.1.1.1.0 ∙ there_pair f.contraries (a, c) old))))
+
+pub dropped_pair : (f g : Aba) (a c : ℕ) (effect : Effect) → IsNumberedAba f
+    → aba_outcome f (ConDrop a c) ≡ Ok (g, effect) → IsPairOf f a c
+dropped_pair f g a c effect ok is =
+    let row = made (contrary_dropped f a c) g effect is in
+    let range = in_range 1 f.atoms c row.none.1.0 in
+    let high = range.1 in
+    let most = ok.atoms in
+    record { there = there f.assumptions a row.none.1.1.0; low = range.0; under = omega arith }
+
+pub dropped_called : (f g : Aba) (a c : ℕ) (effect : Effect) → IsNumberedAba f
+    → aba_outcome f (ConDrop a c) ≡ Ok (g, effect) → (name : AxiomName)
+    → IsNamed (by_contrary_gone g a c) name ↔ IsCalledFor (aba f) (aba g) name
+dropped_called f g a c effect ok is =
+    let row = made (contrary_dropped f a c) g effect is in
+    let pair = dropped_pair f g a c effect ok is in
+    subst (λ h. (name : AxiomName) → IsNamed (by_contrary_gone h a c) name ↔ IsCalledFor (aba f) (aba h) name)
+    row.framework
+    (called f _ _ (contrary_gone_brings f a c pair.there pair.under
+    (pair_there f.contraries (a, c) (not-false _ row.none.1.1.1.0))))
 
 -- the framework behind a rule that came has it last
 last_is : (f : Aba) (rule : Rule) → rule_at (f.rules ++ rule ∷ []) (length (f.rules ++ rule ∷ []) - 1) ≡ rule
@@ -140,7 +213,6 @@ pub rule_called : (f g : Aba) (h : ℕ) (body : List ℕ) (effect : Effect) → 
 rule_called f g h body effect ok is =
     let done = done_row (rule_added f h body).refusals _ (g, effect) is in
     let fits = rule_for f h body done.0 in
-    let room = fits.room in
     let rule = next_rule f h body in
     let more = (rule_added f h body).framework in
     subst (λ k. (name : AxiomName) → IsNamed (by_last_rule k h) name ↔ IsCalledFor (aba f) (aba k) name)
@@ -148,11 +220,13 @@ rule_called f g h body effect ok is =
     (subst (λ q. (name : AxiomName) → IsNamed (record {
       assumption = λ x. ⊥;
       contrary = λ x y. ⊥;
+      contrary_step = λ x i j. ⊥;
+      contrary_end = λ x i. ⊥;
       rule = (by_rule q).rule;
       step = (by_rule_head more h q.number).step;
       end = (by_rule_head more h q.number).end;
     }) name ↔ IsCalledFor (aba f) (aba more) name) (sym (last_is f rule))
-    (called f more _ (rule_brings f h body ok (omega arith) fits.head)))
+    (called f more _ (rule_brings f h body ok fits.head)))
 
 pub some_rule : (f g : Aba) (h : ℕ) (body : List ℕ) (effect : Effect) → aba_outcome f (RuleAdd h body) ≡ Ok (g, effect)
     → 0 < length g.rules

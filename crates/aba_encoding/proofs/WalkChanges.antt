@@ -11,14 +11,13 @@ IsNewStep P Q i j = IsWalkStep Q i j × (IsWalkStep P i j → ⊥)
 abbrev pub IsNewEnd : (ℕ → Type 0) → (ℕ → Type 0) → ℕ → Type 0
 IsNewEnd P Q i = IsWalkEnd Q i × (IsWalkEnd P i → ⊥)
 
--- the same numbers as before, with one more that is larger, and with one less
+-- the same numbers as before, with one more, and with one less
 pub record Gained (P Q : ℕ → Type 0) (n : ℕ) : Type 0 where
   pub here : Q n
+  pub fresh : P n → ⊥
   pub kept : (y : ℕ) → P y → Q y
   pub others : (y : ℕ) → Q y → P y ⊎ (y ≡ n)
-  pub top : (y : ℕ) → P y → y < n
   pub low : 1 ≤ n
-  pub under : n < 1000001
 
 pub record Lost (P Q : ℕ → Type 0) (n : ℕ) : Type 0 where
   pub was : P n
@@ -50,29 +49,25 @@ module _ (P Q : ℕ → Type 0) where
   -- ---- one more
 
   module _ (n : ℕ) (gained : Gained P Q n) where
-    old_start : (i : ℕ) → i ≤ n → IsWalkStart Q i → IsWalkStart P i
-    old_start i le at =
+    -- only the start past n is new
+    old_start : (i : ℕ) → (i ≡ n + 1 → ⊥) → IsWalkStart Q i → IsWalkStart P i
+    old_start i other at =
         ⊎_elim (λ e. inl e)
         (λ h. let is = h.2 in
-        ⊎_elim (λ p. inr (h.0, p, is)) (λ e. absurd (omega arith)) (gained.others h.0 h.1)) at
+        ⊎_elim (λ p. inr (h.0, p, is)) (λ e. absurd (other (omega arith))) (gained.others h.0 h.1)) at
 
-    old_step : (i j : ℕ) → IsWalkStep Q i j → (j ≡ n → ⊥) → IsWalkStep P i j
-    old_step i j is other =
-        let stop = ⊎_elim (λ p. p) (λ e. absurd (other e)) (gained.others j is.stop) in
-        let top = gained.top j stop in
-        let order = is.order in
-        record {
-          start = old_start i (omega arith) is.start;
-          order = is.order;
-          gap = free_of gained.kept i j is.gap;
-          stop = stop;
-        }
+    new_start : (i : ℕ) → i ≡ n + 1 → IsWalkStart P i → ⊥
+    new_start i e at =
+        let low = gained.low in
+        ⊎_elim (λ one. omega arith)
+        (λ h. let is = h.2 in let same : h.0 ≡ n = omega arith in gained.fresh (subst P same h.1)) at
 
-    pub gained_step : (i j : ℕ) → IsNewStep P Q i j ↔ (IsPlaceBefore Q n i × (j ≡ n))
+    pub gained_step : (i j : ℕ) → IsNewStep P Q i j
+        ↔ ((IsPlaceBefore Q n i × (j ≡ n)) ⊎ ((i ≡ n + 1) × IsNextAfter Q n j))
     gained_step i j = (
       λ h. let is = h.0 in
           ⊎_elim
-          (λ (e : j ≡ n). (
+          (λ (e : j ≡ n). inl (
             record {
               start = is.start;
               order = subst (λ k. i ≤ k) e is.order;
@@ -80,36 +75,68 @@ module _ (P Q : ℕ → Type 0) where
             },
             e,
           ))
-          (λ other. absurd (h.1 (old_step i j is other))) (cases_eq j n),
-      λ h. let place = h.0 in let e : j ≡ n = h.1 in (
-        subst (λ k. IsWalkStep Q i k) (sym e)
-            (record { start = place.start; order = place.order; gap = place.gap; stop = gained.here }),
-        λ is. let top = gained.top j is.stop in omega arith,
+          (λ other. ⊎_elim
+          (λ (e : i ≡ n + 1). let order = is.order in inr (
+            e,
+            record { past = omega arith; stop = is.stop; gap = subst (λ k. IsFree Q k j) e is.gap },
+          ))
+          (λ same. absurd (h.1 (record {
+            start = old_start i same is.start;
+            order = is.order;
+            gap = free_of gained.kept i j is.gap;
+            stop = ⊎_elim (λ p. p) (λ e. absurd (other e)) (gained.others j is.stop);
+          })))
+          (cases_eq i (n + 1)))
+          (cases_eq j n),
+      λ s. ⊎_elim
+          (λ h. let place = h.0 in let e : j ≡ n = h.1 in (
+            subst (λ k. IsWalkStep Q i k) (sym e)
+                (record { start = place.start; order = place.order; gap = place.gap; stop = gained.here }),
+            λ is. gained.fresh (subst P e is.stop),
+          ))
+          (λ h. let e : i ≡ n + 1 = h.0 in let next = h.1 in let past = next.past in (
+            record {
+              start = inr (n, gained.here, e);
+              order = omega arith;
+              gap = subst (λ k. IsFree Q k j) (sym e) next.gap;
+              stop = next.stop;
+            },
+            λ is. new_start i e is.start,
+          )) s,
+    )
+
+    pub gained_end : (i : ℕ) → IsNewEnd P Q i ↔ ((i ≡ n + 1) × HasNoneAfter Q n)
+    gained_end i = (
+      λ h. let is = h.0 in
+          ⊎_elim (λ (e : i ≡ n + 1). (e, subst (λ k. IsFree Q k 1000001) e is.gap))
+          (λ same. absurd (h.1 (record {
+            start = old_start i same is.start;
+            gap = free_of gained.kept i 1000001 is.gap;
+          })))
+          (cases_eq i (n + 1)),
+      λ h. let e : i ≡ n + 1 = h.0 in (
+        record { start = inr (n, gained.here, e); gap = subst (λ k. IsFree Q k 1000001) (sym e) h.1 },
+        λ is. new_start i e is.start,
       ),
     )
 
-    pub gained_end : (i : ℕ) → IsNewEnd P Q i ↔ (i ≡ n + 1)
-    gained_end i = (
-      λ h. let is = h.0 in
-          let under = gained.under in
-          let low = gained.low in
-          let past : n < i =
-          ⊎_elim (λ lt. lt) (λ ge. absurd (is.gap n gained.here (omega arith) under)) (cases_lt n i) in
-          ⊎_elim (λ e. absurd (omega arith))
-          (λ s. let at = s.2 in
-          ⊎_elim (λ p. let top = gained.top s.0 p in absurd (omega arith)) (λ e. omega arith)
-          (gained.others s.0 s.1)) is.start,
-      λ e. (
-        record {
-          start = inr (n, gained.here, e);
-          gap = λ y q late early.
-              ⊎_elim (λ p. let top = gained.top y p in omega arith) (λ same. omega arith) (gained.others y q);
-        },
-        λ is. let low = gained.low in
-            ⊎_elim (λ one. omega arith)
-            (λ s. let at = s.2 in let top = gained.top s.0 s.1 in omega arith) is.start,
-      ),
-    )
+    -- one that is larger than all others
+    module _ (top : (y : ℕ) → P y → y < n) where
+      none_past : (y : ℕ) → Q y → n < y → ⊥
+      none_past y q late =
+          ⊎_elim (λ p. let less = top y p in omega arith) (λ e. omega arith) (gained.others y q)
+
+      pub top_step : (i j : ℕ) → IsNewStep P Q i j ↔ (IsPlaceBefore Q n i × (j ≡ n))
+      top_step i j = (
+        λ h. ⊎_elim (λ w. w) (λ w. absurd (none_past j w.1.stop w.1.past)) ((gained_step i j).0 h),
+        λ w. (gained_step i j).1 (inl w),
+      )
+
+      pub top_end : (i : ℕ) → IsNewEnd P Q i ↔ (i ≡ n + 1)
+      top_end i = (
+        λ h. ((gained_end i).0 h).0,
+        λ e. (gained_end i).1 (e, λ y q late early. none_past y q (omega arith)),
+      )
 
   -- ---- one less
 

@@ -1,12 +1,10 @@
 //! The axioms that an edit of an assumption's contraries calls for.
 
-ghost use Rattle.std.specs.Prelude.{◌≡◌, ◌≢◌, ◌↔◌, ◌<◌, ◌≤◌, Contains, IsTrue, OnOk};
-ghost use Rattle.meaning_atoms.specs.AbaReadings.{HasContrary};
+ghost use Rattle.std.specs.Prelude.{◌≡◌, ◌≢◌, ◌↔◌, ◌<◌, ◌≤◌, ◌+◌, ◌-◌, Contains, IsTrue, OnOk, length, slice_index};
 ghost use Rattle.oracle_face.specs.Walks.{IsWalkEnd, IsWalkStep};
 ghost use Rattle.aba_encoding.specs.Listing.{Gains, only_if};
 ghost use Rattle.aba_encoding.specs.Brought.{AreAtoms, GainsBrought};
 ghost use Rattle.aba_encoding.specs.Brought.{by_contrary_added, by_contrary_gone, by_contrary_past, by_contrary_set};
-ghost use Rattle.aba_encoding.specs.Places.{IsPlaceBefore};
 
 use crate::needed_axioms::push_all;
 use crate::places::{contrary_after, place_before_contrary};
@@ -49,7 +47,8 @@ pub(crate) fn push_set(
         names,
         is_new_end(c, gone),
         &[B19(Own, a, c + 1), B19(Rest, a, c + 1)],
-    )
+    )?;
+    Ok(())
 }
 
 /// Adds axioms if a condition holds.
@@ -67,23 +66,29 @@ fn push_if(
     Ok(())
 }
 
-/// Whether a contrary, which 0 says that there is none, is not among those before.
+/// Whether a contrary, where it is none if it is 0, is not among those before.
 fn is_new_contrary(contrary: u32, gone: &[u32]) -> bool
     requires { AreAtoms gone.now }
     ensures { IsTrue result ↔ ((contrary ≢ 0) × ¬ Contains gone.now contrary) }
 {
-    contrary != 0 && gone.binary_search(&contrary).is_err()
+    if contrary == 0 {
+        return false;
+    }
+    !has_number(gone, contrary)
 }
 
-/// Whether a contrary, which 0 says that there is none, is not the first of those before.
+/// Whether the walk along a contrary, where it is none if it is 0, begins otherwise than that along those before.
 fn is_new_step(contrary: u32, gone: &[u32]) -> bool
     requires { AreAtoms gone.now }
     ensures { IsTrue result ↔ ((contrary ≢ 0) × ¬ IsWalkStep (Contains gone.now) 1 contrary) }
 {
-    contrary != 0 && first_of(gone) != contrary
+    if contrary == 0 {
+        return false;
+    }
+    first_of(gone) != contrary
 }
 
-/// Whether a contrary, which 0 says that there is none, is not the last of those before.
+/// Whether the walk along a contrary, where it is none if it is 0, ends elsewhere than that along those before.
 fn is_new_end(contrary: u32, gone: &[u32]) -> bool
     requires { AreAtoms gone.now }
     ensures { IsTrue result ↔ ¬ IsWalkEnd (Contains gone.now) (contrary + 1) }
@@ -104,6 +109,7 @@ pub(crate) fn push_added(
     ensures { OnOk result (GainsBrought (by_contrary_added plain.now assumption contrary)
         names.old.items names.new.items) }
 {
+    let _next = plain.next();
     let (a, c) = (assumption, contrary);
     let start = place_before_contrary(plain, a, c);
     push_all(
@@ -133,6 +139,7 @@ pub(crate) fn push_gone(
     ensures { OnOk result (GainsBrought (by_contrary_gone plain.now assumption contrary)
         names.old.items names.new.items) }
 {
+    let _next = plain.next();
     let start = place_before_contrary(plain, assumption, contrary);
     push_past(alloc, plain, names, assumption, contrary, start)
 }
@@ -161,6 +168,14 @@ fn push_past(
         ),
         None => push_all(alloc, names, &[B19(Own, a, place), B19(Rest, a, place)]),
     }
+}
+
+/// Whether rising numbers have this one.
+fn has_number(numbers: &[u32], number: u32) -> bool
+    requires { AreAtoms numbers.now }
+    ensures { IsTrue result ↔ Contains numbers.now number }
+{
+    numbers.binary_search(&number).is_ok()
 }
 
 /// The first of some numbers, and 0 where there is none.
