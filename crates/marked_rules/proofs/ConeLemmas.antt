@@ -228,12 +228,12 @@ first_next f u s n pairs old new of cut before reaches = record {
       (cases_eq j n);
 }
 
--- a contrary is an atom, or 0
+-- a contrary is an atom
 pub contrary_low : (f : Aba) (u : RuleUses) (a : ℕ) (pairs : List (ℕ × ℕ)) → AreOf f u
     → pairs ≡ filter (λ p. eqb p.0 a) u.contraries.pairs → (p : ℕ × ℕ) → Contains pairs p → p.1 ≤ f.atoms
 contrary_low f u a pairs of cut p c =
-    of.form.form.contraries_are p.0 p.1 ((of.contraries_are p).0
-    ((Contains-filter (λ (q : ℕ × ℕ). eqb q.0 a) u.contraries.pairs p).0 (subst (λ l. Contains l p) cut c)).0)
+    (of.form.form.contraries_are p.0 p.1 ((of.contraries_are p).0
+    ((Contains-filter (λ (q : ℕ × ℕ). eqb q.0 a) u.contraries.pairs p).0 (subst (λ l. Contains l p) cut c)).0)).1.high
 
 pub first_all : (f : Aba) (s : List ℕ) (n : ℕ) (c : Cone) → length s ≤ n → HasFirst f s n c
     → HasContraries f s c.atoms.items

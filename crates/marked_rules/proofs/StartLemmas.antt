@@ -84,12 +84,8 @@ pairs_all f n pairs end are k y = (
 pub low_contraries : (f : Aba) (bound : ℕ) (pairs : List (ℕ × ℕ)) → IsNumberedAba f → f.atoms < bound
     → pairs ≡ f.contraries → AreBelow bound pairs
 low_contraries f bound pairs form high is p c =
-    let there : Contains f.contraries p = subst (λ l. Contains l p) is c in
-    let assumed : Contains f.assumptions p.0 = subst (λ l. Contains l p.0) form.form.one_contrary
-    (image_there (λ (q : ℕ × ℕ). q.0) f.contraries p there) in (
-      omega (arith, high, (form.form.assumptions_are p.0 assumed).high),
-      omega (arith, high, form.form.contraries_are p.0 p.1 there),
-    )
+    let w = form.form.contraries_are p.0 p.1 (subst (λ l. Contains l p) is c) in
+    (omega (arith, high, (form.form.assumptions_are p.0 w.0).high), omega (arith, high, w.1.high))
 
 pub low_pairs : (f : Aba) (bound : ℕ) (pairs : List (ℕ × ℕ)) → IsNumberedAba f → f.atoms < bound
     → length f.rules ≤ bound

@@ -34,7 +34,7 @@ module _ (f : Aba) (u : RuleUses) (of : AreOf f u) where
       → IsQuiet u c a ↔ (AttacksAssumption f s a → ⊥)
   quiet_is s c has a = (
     λ quiet at. quiet at.contrary ((of.contraries_are (a, at.contrary)).1 at.is)
-        ((has.exact at.contrary).1 (of.form.form.contraries_are a at.contrary at.is, at.derived)),
+        ((has.exact at.contrary).1 ((of.form.form.contraries_are a at.contrary at.is).1.high, at.derived)),
     λ none x there m. none (record {
       contrary = x;
       is = (of.contraries_are (a, x)).0 there;

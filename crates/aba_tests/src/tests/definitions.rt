@@ -94,7 +94,7 @@ const ITSELF: Framework = Framework {
 /// An assumption that supports its contrary.
 const SUPPORT: Framework = Framework {
     assumptions: &[1, 2],
-    contraries: &[(1, 3), (2, 0)],
+    contraries: &[(1, 3)],
     rules: &[(4, 3, &[4]), (6, 4, &[1, 1])],
 };
 
@@ -108,7 +108,7 @@ const FACT: Framework = Framework {
 /// Two that attack a third together.
 const JOINT: Framework = Framework {
     assumptions: &[1, 2, 3],
-    contraries: &[(1, 0), (2, 0), (3, 4)],
+    contraries: &[(3, 4)],
     rules: &[(1, 4, &[1, 2, 1])],
 };
 
@@ -117,6 +117,20 @@ const BLOCKED: Framework = Framework {
     assumptions: &[1, 2],
     contraries: &[(1, 3), (2, 4)],
     rules: &[(1, 3, &[1]), (2, 4, &[1]), (3, 3, &[2])],
+};
+
+/// One with two contraries, each of which it is the contrary of.
+const SEVERAL: Framework = Framework {
+    assumptions: &[1, 2, 3],
+    contraries: &[(1, 2), (1, 3), (2, 1), (3, 1)],
+    rules: &[],
+};
+
+/// Two contraries, of which one follows from nothing.
+const EITHER: Framework = Framework {
+    assumptions: &[1],
+    contraries: &[(1, 2), (1, 3)],
+    rules: &[(1, 3, &[])],
 };
 
 const ROWS: &[Row] = &[
@@ -155,6 +169,12 @@ const ROWS: &[Row] = &[
     (BLOCKED, Stable, &[&[2]]),
     (BLOCKED, InAllPreferred, &[&[], &[2]]),
     (BLOCKED, Ideal, &[&[2]]),
+    (SEVERAL, ConflictFree, &[&[], &[1], &[2], &[3], &[2, 3]]),
+    (SEVERAL, Complete, &[&[], &[1], &[2, 3]]),
+    (SEVERAL, Preferred, &[&[1], &[2, 3]]),
+    (SEVERAL, Stable, &[&[1], &[2, 3]]),
+    (EITHER, ConflictFree, &[&[]]),
+    (EITHER, Stable, &[&[]]),
 ];
 
 #[test]

@@ -19,6 +19,8 @@ const FREE: &str = "p aba 2\na 1\nr 2 1\nr 2 2\n";
 const OWN: &str = "p aba 2\na 1\nc 1 1\n";
 // Two assumptions that together derive the contrary of both.
 const JOINT: &str = "p aba 3\na 1\na 2\nc 1 3\nc 2 3\nr 3 1 2\n";
+// An assumption with two contraries, each of which it is the contrary of.
+const SEVERAL: &str = "p aba 3\na 1\na 2\na 3\nc 1 3\nc 1 2\nc 2 1\nc 3 1\n";
 
 /// Which set is asked for.
 #[derive(Clone, Copy)]
@@ -53,6 +55,10 @@ const SETS: &[(Asked, &str, &[u32], &[u32])] = &[
     (Defended, LOOP, &[1], &[1, 2]),
     (Defended, JOINT, &[1], &[]),
     (Grounded, LOOP, &[], &[1, 2]),
+    (Attacked, SEVERAL, &[1], &[2, 3]),
+    (Attacked, SEVERAL, &[3], &[1]),
+    (Defended, SEVERAL, &[2], &[2, 3]),
+    (Grounded, SEVERAL, &[], &[]),
 ];
 
 /// The set that is asked for.
@@ -104,6 +110,10 @@ const TESTS: &[(&str, &[u32], [bool; 4])] = &[
     (OWN, &[1], [false, false, false, false]),
     (OWN, &[], [true, true, true, false]),
     (JOINT, &[1], [true, false, false, false]),
+    (SEVERAL, &[1], [true, true, true, true]),
+    (SEVERAL, &[2], [true, true, false, false]),
+    (SEVERAL, &[2, 3], [true, true, true, true]),
+    (SEVERAL, &[1, 2], [false, false, false, false]),
 ];
 
 /// What the four tests say of a set.
@@ -122,6 +132,26 @@ fn tests_of_sets(rt: HostRuntime) -> Result<(), Fail> {
     for (number, (text, set, expected)) in TESTS.iter().enumerate() {
         let holds = match framework_of(rt.alloc(), text) {
             Some(f) => tested(rt.alloc(), &f, set)? == *expected,
+            None => false,
+        };
+        assert!(rt; holds, "row {number}");
+    }
+    Ok(())
+}
+
+/// A framework's text, an atom, and the atom's contraries.
+const CONTRARIES: &[(&str, u32, &[(u32, u32)])] = &[
+    (SEVERAL, 1, &[(1, 2), (1, 3)]),
+    (SEVERAL, 3, &[(3, 1)]),
+    (FREE, 1, &[]),
+    (MUTUAL, 3, &[]),
+];
+
+#[test]
+fn contraries_of_an_atom(rt: HostRuntime) -> Result<(), Fail> {
+    for (number, (text, atom, contraries)) in CONTRARIES.iter().enumerate() {
+        let holds = match framework_of(rt.alloc(), text) {
+            Some(f) => f.contraries_of(*atom) == *contraries,
             None => false,
         };
         assert!(rt; holds, "row {number}");
