@@ -5,17 +5,17 @@ use Rattle.std.proofs.lemmas.Bool.{cases_eq, cases_lt}
 use Rattle.meaning_atoms.specs.semantics.specs.AbaFrameworks.{Aba, AttacksAssumption, collective_of}
 use Rattle.meaning_atoms.specs.semantics.specs.Collectives.{IsUnattacked}
 use Rattle.meaning_atoms.specs.semantics.specs.Rules.{Rule, Derives, given as from_given, by_rule}
-use Rattle.meaning_atoms.specs.aba_laws.proofs.AbaLemmas.{aba_lawful, decide_attacks}
+use Rattle.meaning_atoms.specs.aba_laws.proofs.AbaLemmas.{aba_lawful}
 use Rattle.meaning_atoms.specs.aba_laws.proofs.CollectiveSets.{defends_by_rest, rest_of}
 use Rattle.meaning_atoms.specs.aba_laws.proofs.DerivationLemmas.{derives_more}
 use Rattle.meaning_atoms.specs.semantics.specs.Frameworks.{aba}
-use Rattle.meaning_atoms.specs.declared.atom.Atom.TheVariants.{Member, Asm, Con, Head, HGap, Body, BGap, Der, Miss, Sup}
+use Rattle.meaning_atoms.specs.declared.atom.Atom.TheVariants.{Member, Asm, Con, ConGap, Head, HGap, Body, BGap, Der, Miss, Sup, Hit}
 use Rattle.meaning_atoms.specs.declared.atom.Atom.TheVariants.{Cf, Ad, Co, St}
 use Rattle.meaning_atoms.specs.declared.atom.Closure.{Closure}
 use Rattle.meaning_atoms.specs.declared.atom.Closure.TheVariants.{Own, Rest}
 use Rattle.meaning_atoms.specs.declared.atom.AtomLit.{AtomLit}
 use Rattle.meaning_atoms.specs.declared.aba_axiom.AbaAxiom.{AbaAxiom}
-use Rattle.meaning_atoms.specs.declared.aba_axiom.AbaAxiom.TheVariants.{B1, B2, B3, B4, B5, B6, B7, B8, B9, B9Con, B10, B11, B12, B13, B14, B15}
+use Rattle.meaning_atoms.specs.declared.aba_axiom.AbaAxiom.TheVariants.{B1, B2, B3, B4, B5, B6, B7, B8, B9, B9Con, B10, B11, B12, B13, B14, B15, B18, B19}
 use Rattle.meaning_atoms.specs.AbaReadings.{IsInClosure, MissesAtom}
 use Rattle.meaning_atoms.specs.Literals.{affirmed}
 use Rattle.meaning_atoms.specs.Worlds.{world_of, IsAbaWorld, IsTrueBeside}
@@ -25,12 +25,13 @@ use Rattle.aba_axioms.specs.AbaTable.{aba_clause, given_atom}
 use Rattle.aba_axioms.proofs.FrameworkLemmas.{
   IsGivenIn,
   assumption_given,
-  attack_derives,
+  attack_hits,
   attacks_by,
   derived_low,
   given_low,
   has_assumption,
   head_follows,
+  hit_by,
   in_closure,
   of_closure,
   rest_derives,
@@ -48,15 +49,11 @@ members_follow a f s ok sides =
     let w = world_of (aba f) s in
     given w sides (Member a) _ (λ member. so w sides (Der Own a) [] (from_given a member))
 
-pub rest_is_unattacked : (a c : ℕ) → IsValidOfAba (aba_clause (B3 a c))
-rest_is_unattacked a c f s ok sides =
+pub rest_is_unattacked : (a : ℕ) → IsValidOfAba (aba_clause (B3 a))
+rest_is_unattacked a f s ok sides =
     let w = world_of (aba f) s in
-    let form = ok.framework.form in
-    given w sides (Con a c) _ (λ con. or_else w sides (Der Own c) _ (λ none. so w sides (Der Rest a) []
-    (from_given a (record {
-      live = has_assumption f form a c con;
-      quiet = λ at. none (attack_derives f form s a c con at);
-    }))))
+    given w sides (Asm a) _ (λ live. or_else w sides (Hit Own a 1) _ (λ none. so w sides (Der Rest a) []
+    (from_given a (record { live = live; quiet = λ at. none (attack_hits f ok.framework.form s a at) }))))
 
 pub nothing_is_no_atom : (k : Closure) → IsValidOfAba (aba_clause (B4 k))
 nothing_is_no_atom k f s ok sides =
@@ -201,23 +198,46 @@ rest_attacks_no_member a c f s ok sides =
     (attacks_by f ok.framework.form rest.0 a c con rest.2) in
     absurd ((rest.1 hit.0 hit.1).quiet hit.2)))))
 
-pub defended_are_members : (a c : ℕ) → IsValidOfAba (aba_clause (B14 a c))
-defended_are_members a c f s ok sides =
+pub defended_are_members : (a : ℕ) → IsValidOfAba (aba_clause (B14 a))
+defended_are_members a f s ok sides =
     let w = world_of (aba f) s in
     let form = ok.framework.form in
     let d = collective_of f in
-    given w sides Co _ (λ co. given w sides (Con a c) _ (λ con. or_else w sides (Der Rest c) _ (λ none.
+    given w sides Co _ (λ co. given w sides (Asm a) _ (λ live. or_else w sides (Hit Rest a 1) _ (λ none.
     let rest = rest_of d (aba_lawful f) s in
     let quiet : AttacksAssumption f rest.0 a → ⊥ = λ at. none
-    (derives_more f.rules (Contains rest.0) (IsUnattacked d s) (λ y k. (rest.1 y).0 k) c
-    (attack_derives f form rest.0 a c con at)) in
-    so w sides (Member a) []
-    (co.closed a (has_assumption f form a c con) ((defends_by_rest d (aba_lawful f) s rest.0 a rest.1).1 quiet)))))
+    (hit_by f form s Rest a at.contrary at.is
+    (derives_more f.rules (Contains rest.0) (IsUnattacked d s) (λ y k. (rest.1 y).0 k) at.contrary at.derived)) in
+    so w sides (Member a) [] (co.closed a live ((defends_by_rest d (aba_lawful f) s rest.0 a rest.1).1 quiet)))))
 
-pub outsiders_are_attacked : (a c : ℕ) → IsValidOfAba (aba_clause (B15 a c))
-outsiders_are_attacked a c f s ok sides =
+pub outsiders_are_attacked : (a : ℕ) → IsValidOfAba (aba_clause (B15 a))
+outsiders_are_attacked a f s ok sides =
     let w = world_of (aba f) s in
-    let form = ok.framework.form in
-    given w sides St _ (λ st. given w sides (Con a c) _ (λ con. or_else w sides (Member a) _ (λ out.
-    so w sides (Der Own c) []
-    (attack_derives f form s a c con (st.attacks_outside a (has_assumption f form a c con) out)))))
+    given w sides St _ (λ st. given w sides (Asm a) _ (λ live. or_else w sides (Member a) _ (λ out.
+    so w sides (Hit Own a 1) [] (attack_hits f ok.framework.form s a (st.attacks_outside a live out)))))
+
+pub hit_steps : (k : Closure) (a i j : ℕ) → IsValidOfAba (aba_clause (B18 k a i j))
+hit_steps k a i j f s ok sides =
+    let w = world_of (aba f) s in
+    given w sides (Hit k a i) _ (λ hit. given w sides (ConGap a i j) _ (λ gap. or_else w sides (Der k j) _ (λ out.
+    let late = hit.late in
+    ⊎_elim (λ below. absurd (gap.none hit.contrary hit.is hit.late below))
+    (λ past. ⊎_elim
+    (λ e. absurd (out (subst (λ x. IsInClosure f s k x) e hit.derived)))
+    (λ other. so w sides (Hit k a (j + 1)) [] (record {
+      assumption = hit.assumption;
+      contrary = hit.contrary;
+      is = hit.is;
+      late = omega arith;
+      derived = hit.derived;
+    }))
+    (cases_eq hit.contrary j))
+    (cases_lt hit.contrary j))))
+
+pub hit_ends : (k : Closure) (a i : ℕ) → IsValidOfAba (aba_clause (B19 k a i))
+hit_ends k a i f s ok sides =
+    let w = world_of (aba f) s in
+    given w sides (Hit k a i) _ (λ hit. given w sides (ConGap a i 1000001) _ (λ gap.
+    let high = (ok.framework.form.contraries_are a hit.contrary hit.is).1.high in
+    let most = ok.framework.atoms in
+    absurd (gap.none hit.contrary hit.is hit.late (omega arith))))

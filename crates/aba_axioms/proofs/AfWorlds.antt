@@ -4,11 +4,11 @@ use Rattle.std.proofs.Common.{◌+◌, ℕ, List, [], ◌∷◌, refl, arith}
 use Rattle.std.specs.Prelude.{Contains}
 use Rattle.meaning_atoms.specs.semantics.specs.Framework.{Af}
 use Rattle.meaning_atoms.specs.semantics.specs.Frameworks.{af}
-use Rattle.meaning_atoms.specs.declared.atom.Atom.TheVariants.{Member, Asm, Con, Head, HGap, Body, BGap, Der, Miss, Sup}
+use Rattle.meaning_atoms.specs.declared.atom.Atom.TheVariants.{Member, Asm, Con, ConGap, Head, HGap, Body, BGap, Der, Miss, Sup, Hit}
 use Rattle.meaning_atoms.specs.declared.atom.Closure.{Closure}
 use Rattle.meaning_atoms.specs.declared.atom.Closure.TheVariants.{Own, Rest}
 use Rattle.meaning_atoms.specs.declared.atom.AtomLit.{AtomLit}
-use Rattle.meaning_atoms.specs.declared.aba_axiom.AbaAxiom.TheVariants.{B1, B2, B3, B4, B5, B6, B7, B8, B9, B9Con, B10, B11, B12, B13, B14, B15}
+use Rattle.meaning_atoms.specs.declared.aba_axiom.AbaAxiom.TheVariants.{B1, B2, B3, B4, B5, B6, B7, B8, B9, B9Con, B10, B11, B12, B13, B14, B15, B18, B19}
 use Rattle.meaning_atoms.specs.Literals.{affirmed, denied}
 use Rattle.meaning_atoms.specs.Worlds.{world_of, HoldsLit, IsAfWorld, IsTrueBeside}
 use Rattle.meaning_atoms.proofs.Clauses.{so, given}
@@ -30,8 +30,8 @@ b2 a f s ok sides =
     let w = world_of (af f) s in
     given w sides (Member a) _ (λ member. so w sides (Der Own a) [] (ok.members a member).low)
 
-pub b3 : (a c : ℕ) → IsValidOfAf (aba_clause (B3 a c))
-b3 a c = has_true _ (denied (Con a c)) (0, omega arith, refl) (λ f s sides h. h)
+pub b3 : (a : ℕ) → IsValidOfAf (aba_clause (B3 a))
+b3 a = has_true _ (affirmed (Hit Own a 1)) (1, omega arith, refl) (λ f s sides. tt)
 
 pub b4 : (k : Closure) → IsValidOfAf (aba_clause (B4 k))
 b4 k = has_true _ (denied (Der k 0)) (0, omega arith, refl) (λ f s sides low. absurd (omega (arith, low)))
@@ -66,8 +66,14 @@ b12 a c = has_true _ (denied (Con a c)) (1, omega arith, refl) (λ f s sides h. 
 pub b13 : (a c : ℕ) → IsValidOfAf (aba_clause (B13 a c))
 b13 a c = has_true _ (denied (Con a c)) (1, omega arith, refl) (λ f s sides h. h)
 
-pub b14 : (a c : ℕ) → IsValidOfAf (aba_clause (B14 a c))
-b14 a c = has_true _ (denied (Con a c)) (1, omega arith, refl) (λ f s sides h. h)
+pub b14 : (a : ℕ) → IsValidOfAf (aba_clause (B14 a))
+b14 a = has_true _ (affirmed (Hit Rest a 1)) (2, omega arith, refl) (λ f s sides. tt)
 
-pub b15 : (a c : ℕ) → IsValidOfAf (aba_clause (B15 a c))
-b15 a c = has_true _ (denied (Con a c)) (1, omega arith, refl) (λ f s sides h. h)
+pub b15 : (a : ℕ) → IsValidOfAf (aba_clause (B15 a))
+b15 a = has_true _ (affirmed (Hit Own a 1)) (3, omega arith, refl) (λ f s sides. tt)
+
+pub b18 : (k : Closure) (a i j : ℕ) → IsValidOfAf (aba_clause (B18 k a i j))
+b18 k a i j = has_true _ (denied (ConGap a i j)) (1, omega arith, refl) (λ f s sides h. h)
+
+pub b19 : (k : Closure) (a i : ℕ) → IsValidOfAf (aba_clause (B19 k a i))
+b19 k a i = has_true _ (denied (ConGap a i 1000001)) (1, omega arith, refl) (λ f s sides h. h)

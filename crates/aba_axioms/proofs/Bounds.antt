@@ -7,12 +7,12 @@ use Rattle.std.proofs.lemmas.List.Elements.{All-from_recursion}
 use Rattle.std.proofs.lemmas.List.Kept.{AllPairs-from_increasing}
 use Rattle.meaning_atoms.specs.semantics.specs.Arguments.{IsArgument}
 use Rattle.meaning_atoms.specs.declared.atom.Atom.{Atom}
-use Rattle.meaning_atoms.specs.declared.atom.Atom.TheVariants.{Member, Asm, HGap, BGap, Body, Miss}
+use Rattle.meaning_atoms.specs.declared.atom.Atom.TheVariants.{Member, Asm, ConGap, HGap, BGap, Body, Miss}
 use Rattle.meaning_atoms.specs.declared.atom.Closure.{Closure}
 use Rattle.meaning_atoms.specs.declared.atom.Closure.TheVariants.{Own, Rest}
 use Rattle.meaning_atoms.specs.declared.atom.AtomLit.{AtomLit}
 use Rattle.meaning_atoms.specs.declared.aba_axiom.AbaAxiom.{AbaAxiom}
-use Rattle.meaning_atoms.specs.declared.aba_axiom.AbaAxiom.TheVariants.{B1, B2, B3, B4, B5, B6, B7, B8, B9, B9Con, B10, B11, B12, B13, B14, B15, B16, B17}
+use Rattle.meaning_atoms.specs.declared.aba_axiom.AbaAxiom.TheVariants.{B1, B2, B3, B4, B5, B6, B7, B8, B9, B9Con, B10, B11, B12, B13, B14, B15, B16, B17, B18, B19}
 use Rattle.meaning_atoms.specs.declared.loop_rows.LoopRow.{LoopRow}
 use Rattle.meaning_atoms.specs.AbaAxioms.{IsAbaAxiom, IsLoop, IsLoopAtom, IsLoopPair, IsLoopRow}
 use Rattle.meaning_atoms.specs.Atoms.{IsAtom, IsAtomOrNone, IsLit, IsPosition}
@@ -149,7 +149,7 @@ given_in_bounds Rest x a = a
 fits : (name : AbaAxiom) → IsAbaAxiom name → AllByRecursion IsLit (aba_clause name)
 fits (B1 a) h = (tt, (h, (h, tt)))
 fits (B2 a) h = (h, (number a h, tt))
-fits (B3 a c) h = (h, (h.1, (number a h.0, tt)))
+fits (B3 a) h = (h, ((h, first_place), (number a h, tt)))
 fits (B4 k) h = (nothing, tt)
 fits (B5 k r x) h = (h, ((h.0, first_place), (number x h.1, tt)))
 fits (B6 k r x) h = (h, (number x h.1, ((h.0, first_place), tt)))
@@ -172,10 +172,17 @@ fits (B10 k x i j) h =
 fits (B11 k x i) h = ((number x h.0, h.1), ((h.0, h.1, last_place, h.1.high), tt))
 fits (B12 a c) h = (tt, (h, (h.0, (h.1, tt))))
 fits (B13 a c) h = (tt, (h, (h.0, (h.1, tt))))
-fits (B14 a c) h = (tt, (h, (h.1, (h.0, tt))))
-fits (B15 a c) h = (tt, (h, (h.0, (h.1, tt))))
+fits (B14 a) h = (tt, (h, ((h, first_place), (h, tt))))
+fits (B15 a) h = (tt, (h, (h, ((h, first_place), tt))))
 fits (B16 part) h = notions_fit part
 fits (B17 k x rows) h = loop_fits k x rows h
+fits (B18 k a i j) h =
+    let s : IsStretch a i j = h in
+    let hit : IsArgument a × IsPosition i = (s.argument, stretch_begin a i j s) in
+    let gap : IsAtom (ConGap a i j) = (s.argument, stretch_begin a i j s, stretch_end a i j s, s.order) in
+    let later : IsArgument a × IsPosition (j + 1) = (s.argument, stretch_past a i j s) in
+    (hit, (gap, (number j (stretch_argument a i j s), (later, tt))))
+fits (B19 k a i) h = (h, ((h.0, h.1, last_place, h.1.high), tt))
 
 pub rows_fit : (name : AbaAxiom) → IsAbaAxiom name → All IsLit (aba_clause name)
 rows_fit name h = All-from_recursion IsLit (aba_clause name) (fits name h)
@@ -217,7 +224,7 @@ rows_plain k (row ∷ rows) =
 plain : (name : AbaAxiom) → AllByRecursion AsksNone (aba_clause name)
 plain (B1 a) = (λ h. h, (λ h. h, (λ h. h, tt)))
 plain (B2 a) = (λ h. h, (λ h. h, tt))
-plain (B3 a c) = (λ h. h, (λ h. h, (λ h. h, tt)))
+plain (B3 a) = (λ h. h, (λ h. h, (λ h. h, tt)))
 plain (B4 k) = (λ h. h, tt)
 plain (B5 k r x) = (λ h. h, (λ h. h, (λ h. h, tt)))
 plain (B6 k r x) = (λ h. h, (λ h. h, (λ h. h, tt)))
@@ -229,8 +236,8 @@ plain (B10 k x i j) = (λ h. h, (λ h. h, (λ h. h, (λ h. h, tt))))
 plain (B11 k x i) = (λ h. h, (λ h. h, tt))
 plain (B12 a c) = (λ h. h, (λ h. h, (λ h. h, (λ h. h, tt))))
 plain (B13 a c) = (λ h. h, (λ h. h, (λ h. h, (λ h. h, tt))))
-plain (B14 a c) = (λ h. h, (λ h. h, (λ h. h, (λ h. h, tt))))
-plain (B15 a c) = (λ h. h, (λ h. h, (λ h. h, (λ h. h, tt))))
+plain (B14 a) = (λ h. h, (λ h. h, (λ h. h, (λ h. h, tt))))
+plain (B15 a) = (λ h. h, (λ h. h, (λ h. h, (λ h. h, tt))))
 plain (B16 part) = notions_plain part
 plain (B17 k x rows) = (
   λ h. h,
@@ -238,6 +245,8 @@ plain (B17 k x rows) = (
       (each_by_list AsksNone (λ row. affirmed (given_atom k row.atom)) rows (λ row c. given_plain k row.atom))
       (rows_plain k rows),
 )
+plain (B18 k a i j) = (λ h. h, (λ h. h, (λ h. h, (λ h. h, tt))))
+plain (B19 k a i) = (λ h. h, (λ h. h, tt))
 
 pub asks_nothing : (name : AbaAxiom) → All (λ literal. ¬ IsAsk literal.atom) (aba_clause name)
 asks_nothing name = All-from_recursion (λ literal. ¬ IsAsk literal.atom) (aba_clause name) (plain name)

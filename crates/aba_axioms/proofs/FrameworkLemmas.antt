@@ -1,21 +1,17 @@
--- What the form of an assumption-based framework gives: rules by number, contraries by assumption, and flatness.
-use Rattle.std.proofs.Common.{◌≡◌, ◌+◌, ◌<◌, ◌≤◌, ℕ, List, [], ◌∷◌, length, get_or, map, refl, sym, ap, subst, ◌∙◌, ⊎_elim, arith}
+-- What the form of an assumption-based framework gives: rules by number, contraries of assumptions, and flatness.
+use Rattle.std.proofs.Common.{◌≡◌, ◌≤◌, ℕ, List, refl, sym, subst, ⊎_elim, arith}
 use Rattle.std.specs.Prelude.{Contains}
-use Rattle.std.specs.List.Sorted.{IsStrictlyIncreasing}
-use Rattle.std.proofs.lemmas.List.{get_or-map, length-map}
-use Rattle.std.proofs.lemmas.List.Elements.{Contains-get_or}
-use Rattle.meaning_atoms.specs.semantics.specs.AbaFrameworks.{Aba, AttacksAssumption, IsAba, IsRuleOf, IsNumberedAba, collective_of}
+use Rattle.meaning_atoms.specs.semantics.specs.AbaFrameworks.{Aba, AttacksAssumption, IsAba, IsRuleOf, collective_of}
 use Rattle.meaning_atoms.specs.semantics.specs.Collectives.{IsUnattacked}
 use Rattle.meaning_atoms.specs.semantics.specs.Rules.{Rule, Derives, given, by_rule}
-use Rattle.meaning_atoms.specs.aba_laws.proofs.AbaLemmas.{aba_lawful, decide_attacks}
+use Rattle.meaning_atoms.specs.aba_laws.proofs.AbaLemmas.{aba_lawful}
 use Rattle.meaning_atoms.specs.aba_laws.proofs.CollectiveSets.{rest_of}
 use Rattle.meaning_atoms.specs.aba_laws.proofs.DerivationLemmas.{derives_more}
 use Rattle.meaning_atoms.specs.declared.atom.Closure.{Closure}
 use Rattle.meaning_atoms.specs.declared.atom.Closure.TheVariants.{Own, Rest}
-use Rattle.meaning_atoms.specs.AbaReadings.{HasContrary, IsInClosure, MissesAtom}
+use Rattle.meaning_atoms.specs.AbaReadings.{HasContrary, HasHit, IsInClosure, MissesAtom}
 use Rattle.meaning_atoms.specs.Worlds.{IsAbaWorld}
 use Rattle.meaning_atoms.proofs.AbaDecided.{decide_closure}
-use Rattle.meaning_atoms.specs.semantics.proofs.Decided.{Decided, decide_both, decide_at_most, decide_not, decide_some}
 use Rattle.lists.proofs.RisingLists.{same_item}
 
 module _ (f : Aba) (form : IsAba f) where
@@ -23,30 +19,28 @@ module _ (f : Aba) (form : IsAba f) where
   pub same_rule : (q r : Rule) → Contains f.rules q → Contains f.rules r → q.number ≡ r.number → q ≡ r
   same_rule q r cq cr e = same_item (λ (x : Rule). x.number) f.rules q r form.numbers_rise cq cr e
 
-  -- an assumption has one contrary
-  pub same_contrary : (a c d : ℕ) → HasContrary f a c → HasContrary f a d → c ≡ d
-  same_contrary a c d hc hd =
-      let rise = subst IsStrictlyIncreasing (sym form.one_contrary) form.assumptions_rise in
-      ap (λ p. p.1) (same_item (λ (p : ℕ × ℕ). p.0) f.contraries (a, c) (a, d) rise hc hd refl)
-
   -- what has a contrary is an assumption
   pub has_assumption : (a c : ℕ) → HasContrary f a c → Contains f.assumptions a
-  has_assumption a c h =
-      let at : get_or (map (λ p. p.0) f.contraries) h.0 0 ≡ a
-      = get_or-map (λ (p : ℕ × ℕ). p.0) f.contraries h.0 (a, c) 0 h.1 ∙ ap (λ (p : ℕ × ℕ). p.0) h.2 in
-      let there = Contains-get_or (map (λ p. p.0) f.contraries) h.0 0
-      (let long = length-map f.contraries (λ (p : ℕ × ℕ). p.0) in omega (arith, h.1)) in
-      subst (λ xs. Contains xs a) form.one_contrary (subst (λ x. Contains (map (λ p. p.0) f.contraries) x) at there)
+  has_assumption a c h = (form.contraries_are a c h).0
 
-  -- the set attacks the assumption where it derives the contrary, and only there
+  -- the set attacks the assumption where it derives a contrary
   pub attacks_by : (s : List ℕ) (a c : ℕ) → HasContrary f a c → Derives f.rules (Contains s) c
       → AttacksAssumption f s a
   attacks_by s a c h d = record { contrary = c; is = h; derived = d }
 
-  pub attack_derives : (s : List ℕ) (a c : ℕ) → HasContrary f a c → AttacksAssumption f s a
-      → Derives f.rules (Contains s) c
-  attack_derives s a c h at =
-      subst (λ x. Derives f.rules (Contains s) x) (same_contrary a at.contrary c at.is h) at.derived
+  -- a contrary that is in a closure hits the assumption, from the first number on
+  pub hit_by : (s : List ℕ) (k : Closure) (a c : ℕ) → HasContrary f a c → IsInClosure f s k c → HasHit f s k a 1
+  hit_by s k a c h derived = record {
+    assumption = has_assumption a c h;
+    contrary = c;
+    is = h;
+    late = (form.contraries_are a c h).1.low;
+    derived = derived;
+  }
+
+  -- the set's own closure hits what the set attacks
+  pub attack_hits : (s : List ℕ) (a : ℕ) → AttacksAssumption f s a → HasHit f s Own a 1
+  attack_hits s a at = hit_by s Own a at.contrary at.is at.derived
 
   -- an assumption that follows is given: no rule heads it
   pub assumption_given : (P : ℕ → Type 0) (a : ℕ) → Contains f.assumptions a → Derives f.rules P a → P a

@@ -3,7 +3,7 @@ use Rattle.std.proofs.Common.{ℕ, List}
 use Rattle.meaning_atoms.specs.semantics.specs.Frameworks.{Framework, af, aba}
 use Rattle.meaning_atoms.specs.declared.atom.AtomLit.{AtomLit}
 use Rattle.meaning_atoms.specs.declared.aba_axiom.AbaAxiom.{AbaAxiom}
-use Rattle.meaning_atoms.specs.declared.aba_axiom.AbaAxiom.TheVariants.{B1, B2, B3, B4, B5, B6, B7, B8, B9, B9Con, B10, B11, B12, B13, B14, B15, B16, B17}
+use Rattle.meaning_atoms.specs.declared.aba_axiom.AbaAxiom.TheVariants.{B1, B2, B3, B4, B5, B6, B7, B8, B9, B9Con, B10, B11, B12, B13, B14, B15, B16, B17, B18, B19}
 use Rattle.meaning_atoms.specs.AbaAxioms.{IsAbaAxiom}
 use Rattle.meaning_atoms.specs.Worlds.{IsTrueBeside, IsValid, IsWorldOf}
 use Rattle.meaning_atoms.proofs.NotionClauses.{IsValidOfAba, IsValidOfAf, notions_of_aba, notions_of_af}
@@ -13,6 +13,8 @@ use Rattle.aba_axioms.proofs.AbaWorlds.{
   defended_are_members,
   derived_has_support,
   heads_follow,
+  hit_ends,
+  hit_steps,
   members_are_apart,
   members_are_assumptions,
   members_follow,
@@ -26,13 +28,13 @@ use Rattle.aba_axioms.proofs.AbaWorlds.{
   support_ends,
   support_steps,
 }
-use Rattle.aba_axioms.proofs.AfWorlds.{b1, b2, b3, b4, b5, b6, b7, b8, b9, b9_con, b10, b11, b12, b13, b14, b15}
+use Rattle.aba_axioms.proofs.AfWorlds.{b1, b2, b3, b4, b5, b6, b7, b8, b9, b9_con, b10, b11, b12, b13, b14, b15, b18, b19}
 use Rattle.aba_axioms.proofs.LoopClauses.{loop_of_aba, loop_of_af}
 
 rows_of_aba : (name : AbaAxiom) → IsAbaAxiom name → IsValidOfAba (aba_clause name)
 rows_of_aba (B1 a) fits = members_are_assumptions a
 rows_of_aba (B2 a) fits = members_follow a
-rows_of_aba (B3 a c) fits = rest_is_unattacked a c
+rows_of_aba (B3 a) fits = rest_is_unattacked a
 rows_of_aba (B4 k) fits = nothing_is_no_atom k
 rows_of_aba (B5 k r h) fits = heads_follow k r h
 rows_of_aba (B6 k r x) fits = bodies_are_missed k r x
@@ -44,15 +46,17 @@ rows_of_aba (B10 k x i j) fits = support_steps k x i j
 rows_of_aba (B11 k x i) fits = support_ends k x i
 rows_of_aba (B12 a c) fits = members_are_apart a c
 rows_of_aba (B13 a c) fits = rest_attacks_no_member a c
-rows_of_aba (B14 a c) fits = defended_are_members a c
-rows_of_aba (B15 a c) fits = outsiders_are_attacked a c
+rows_of_aba (B14 a) fits = defended_are_members a
+rows_of_aba (B15 a) fits = outsiders_are_attacked a
 rows_of_aba (B16 part) fits = notions_of_aba part
 rows_of_aba (B17 k x rows) fits = loop_of_aba k x rows fits
+rows_of_aba (B18 k a i j) fits = hit_steps k a i j
+rows_of_aba (B19 k a i) fits = hit_ends k a i
 
 rows_of_af : (name : AbaAxiom) → IsAbaAxiom name → IsValidOfAf (aba_clause name)
 rows_of_af (B1 a) fits = b1 a
 rows_of_af (B2 a) fits = b2 a
-rows_of_af (B3 a c) fits = b3 a c
+rows_of_af (B3 a) fits = b3 a
 rows_of_af (B4 k) fits = b4 k
 rows_of_af (B5 k r h) fits = b5 k r h
 rows_of_af (B6 k r x) fits = b6 k r x
@@ -64,10 +68,12 @@ rows_of_af (B10 k x i j) fits = b10 k x i j
 rows_of_af (B11 k x i) fits = b11 k x i
 rows_of_af (B12 a c) fits = b12 a c
 rows_of_af (B13 a c) fits = b13 a c
-rows_of_af (B14 a c) fits = b14 a c
-rows_of_af (B15 a c) fits = b15 a c
+rows_of_af (B14 a) fits = b14 a
+rows_of_af (B15 a) fits = b15 a
 rows_of_af (B16 part) fits = notions_of_af part
 rows_of_af (B17 k x rows) fits = loop_of_af k x rows fits
+rows_of_af (B18 k a i j) fits = b18 k a i j
+rows_of_af (B19 k a i) fits = b19 k a i
 
 rows_of : (name : AbaAxiom) → IsAbaAxiom name → (f : Framework) (s : List ℕ) → IsWorldOf f s
     → (sides : List (List AtomLit)) → IsTrueBeside (record { framework = f; set = s }) sides (aba_clause name)

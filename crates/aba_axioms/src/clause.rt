@@ -1,7 +1,7 @@
 //! The table of axioms.
 
 ghost use Rattle.std.specs.Prelude.{◌≡◌, ◌<◌, ◌∷◌, [], All, IfOk};
-ghost use Rattle.meaning_atoms.specs.declared.aba_axiom.AbaAxiom.TheVariants.{B7, B9, B10};
+ghost use Rattle.meaning_atoms.specs.declared.aba_axiom.AbaAxiom.TheVariants.{B7, B9, B10, B18};
 ghost use Rattle.meaning_atoms.specs.declared.atom.Atom.TheVariants.{Con, Der, Member};
 ghost use Rattle.meaning_atoms.specs.Literals.{denied};
 ghost use Rattle.meaning_atoms.specs.AbaAxioms.{IsAbaAxiom};
@@ -12,7 +12,7 @@ ghost use Rattle.aba_axioms.specs.AbaTable.{aba_clause, given_atom as given_in};
 use crate::loop_clause::loop_clause;
 use lists::{Items, Memory};
 use meaning_atoms::Atom::{
-    Ad, Asm, BGap, Body, Cf, Co, Con, Der, HGap, Head, Member, Miss, St, Sup,
+    Ad, Asm, BGap, Body, Cf, Co, Con, ConGap, Der, HGap, Head, Hit, Member, Miss, St, Sup,
 };
 use meaning_atoms::Closure::{Own, Rest};
 use meaning_atoms::{AbaAxiom, Atom, AtomLit, Closure, END, list, no, yes};
@@ -38,9 +38,9 @@ fn row(alloc: Global, name: &AbaAxiom) -> Result<Items<AtomLit>, Memory>
     match name {
         AbaAxiom::B1(a) => list(alloc, [no(Cf), no(Member(*a)), yes(Asm(*a))]),
         AbaAxiom::B2(a) => list(alloc, [no(Member(*a)), yes(Der(Own, *a))]),
-        AbaAxiom::B3(a, c) => list(
+        AbaAxiom::B3(a) => list(
             alloc,
-            [no(Con(*a, *c)), yes(Der(Own, *c)), yes(Der(Rest, *a))],
+            [no(Asm(*a)), yes(Hit(Own, *a, 1)), yes(Der(Rest, *a))],
         ),
         AbaAxiom::B4(k) => list(alloc, [no(Der(*k, 0))]),
         AbaAxiom::B5(k, r, h) => list(
@@ -62,18 +62,20 @@ fn row(alloc: Global, name: &AbaAxiom) -> Result<Items<AtomLit>, Memory>
         AbaAxiom::B11(k, x, i) => list(alloc, [no(Sup(*k, *x, *i)), no(HGap(*x, *i, END))]),
         AbaAxiom::B12(a, c) => apart(alloc, Cf, *a, *c, Own),
         AbaAxiom::B13(a, c) => apart(alloc, Ad, *a, *c, Rest),
-        AbaAxiom::B14(a, c) => list(
+        AbaAxiom::B14(a) => list(
             alloc,
-            [no(Co), no(Con(*a, *c)), yes(Der(Rest, *c)), yes(Member(*a))],
+            [no(Co), no(Asm(*a)), yes(Hit(Rest, *a, 1)), yes(Member(*a))],
         ),
-        AbaAxiom::B15(a, c) => list(
+        AbaAxiom::B15(a) => list(
             alloc,
-            [no(St), no(Con(*a, *c)), yes(Member(*a)), yes(Der(Own, *c))],
+            [no(St), no(Asm(*a)), yes(Member(*a)), yes(Hit(Own, *a, 1))],
         ),
         AbaAxiom::B16(1) => list(alloc, [no(Ad), yes(Cf)]),
         AbaAxiom::B16(2) => list(alloc, [no(Co), yes(Ad)]),
         AbaAxiom::B16(_) => list(alloc, [no(St), yes(Co)]),
         AbaAxiom::B17 { closure, x, rows } => loop_clause(alloc, *closure, *x, rows.as_slice()),
+        AbaAxiom::B18(k, a, i, j) => hit_step(alloc, *k, *a, *i, *j),
+        AbaAxiom::B19(k, a, i) => list(alloc, [no(Hit(*k, *a, *i)), no(ConGap(*a, *i, END))]),
     }
 }
 
@@ -114,6 +116,19 @@ fn supported(alloc: Global, k: Closure, x: u32) -> Result<Items<AtomLit>, Memory
 {
     let given = yes(given_atom(k, x));
     list(alloc, [no(Der(k, x)), given, yes(Sup(k, x, 1))])
+}
+
+/// B18: the contrary of an assumption that a closure has is none from `i` to just before `j`, and, where `j` is not in the
+/// closure, a later one than `j`.
+fn hit_step(alloc: Global, k: Closure, a: u32, i: u32, j: u32) -> Result<Items<AtomLit>, Memory>
+    requires { j < END }
+    ensures { IfOk result (λ clause. clause ≡ aba_clause (B18 k a i j)) }
+{
+    let later = yes(Hit(k, a, j + 1));
+    list(
+        alloc,
+        [no(Hit(k, a, i)), no(ConGap(a, i, j)), yes(Der(k, j)), later],
+    )
 }
 
 /// B12 and B13: a set of the mode has no member whose contrary is in the closure.

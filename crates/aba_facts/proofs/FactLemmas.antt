@@ -1,7 +1,7 @@
 -- What is found at a rule's index is so of the rule of its number.
 use Rattle.std.proofs.Common.{◌≡◌, ◌+◌, ◌≤◌, ◌<◌, ℕ, List, length, get_or, map, true, false, arith, ap, refl, sym, subst, ◌∙◌, ⊎_elim}
 use Rattle.std.proofs.Common.{eqb, leb, leb-true, le-leb, eq-eqb}
-use Rattle.std.specs.Prelude.{Contains, ◌↔◌, IsTrue}
+use Rattle.std.specs.Prelude.{Contains, filter, ◌↔◌, IsTrue}
 use Rattle.std.specs.List.Sorted.{IsStrictlyIncreasing}
 use Rattle.std.proofs.lemmas.Bool.{cases_lt, eqb-true, false≢true}
 use Rattle.std.proofs.lemmas.List.{get_or_default, get_or-map, length-map}
@@ -10,12 +10,14 @@ use Rattle.attack_index.specs.PairOrder.{PairsRise}
 use Rattle.semantics.specs.AbaFrameworks.{Aba, IsNumberedAba}
 use Rattle.semantics.specs.Rules.{Rule}
 use Rattle.aba_notions.specs.Storage.{no_rule, rule_at}
+use Rattle.attack_index.proofs.OffsetLemmas.{PairsRise-filter}
 use Rattle.aba_notions.proofs.TableLemmas.{rising_few}
 use Rattle.aba_notions.proofs.UnfoundedLemmas.{read_number}
-use Rattle.meaning_atoms.specs.AbaReadings.{HasHead, HasNoHead, HasRule}
+use Rattle.meaning_atoms.specs.AbaReadings.{HasHead, HasNoContrary, HasNoHead, HasRule}
 use Rattle.aba_axioms.proofs.FrameworkLemmas.{same_rule}
-use Rattle.aba_facts.specs.Cuts.{IsCut, IsFirstFrom, IsRuleAt}
+use Rattle.aba_facts.specs.Cuts.{IsClear, IsCut, IsFirstFrom, IsRuleAt}
 use Rattle.aba_facts.proofs.CutLemmas.{behind_cut}
+use Rattle.lists.proofs.Filters.{Contains-filter}
 use Rattle.lists.proofs.Images.{image_there, image_from}
 use Rattle.lists.proofs.RisingLists.{rises_along}
 
@@ -126,6 +128,34 @@ module _ (f : Aba) (form : IsNumberedAba f) where
       let at = get_or_default numbers there.0 0 r.number there.1 ∙ there.2 in
       let after = cut.after n (omega arith) within in
       other (omega arith)
+
+  -- ---- contraries
+
+  abbrev contraries_of : ℕ → List (ℕ × ℕ)
+  contraries_of a = filter (λ p. eqb p.0 a) f.contraries
+
+  pub contraries_up : (a : ℕ) → IsStrictlyIncreasing (map second (contraries_of a))
+  contraries_up a = seconds_rise (contraries_of a) a
+      (PairsRise-filter (λ p. eqb p.0 a) f.contraries (record { order = form.form.contraries_rise }))
+      (λ p c. eqb-true p.0 a ((Contains-filter (λ p. eqb p.0 a) f.contraries p).0 c).1)
+
+  pub no_contrary_at : (a begin end : ℕ) → Contains f.assumptions a
+      → IsClear (map second (contraries_of a)) begin end ↔ HasNoContrary f a begin end
+  no_contrary_at a begin end live =
+      let kept = Contains-filter (λ (p : ℕ × ℕ). eqb p.0 a) f.contraries in (
+        λ clear. record {
+          assumption = live;
+          none = λ c has low high.
+              clear c (image_there second (contraries_of a) (a, c) ((kept (a, c)).1 (has, eq-eqb a a refl))) low high;
+        },
+        λ gap y c low high.
+            let from = image_from second (contraries_of a) y c in
+            let is = (kept from.0).0 from.1 in
+            let first : from.0.0 ≡ a = eqb-true from.0.0 a is.1 in
+            gap.none y
+            (subst (λ x. Contains f.contraries (a, x)) from.2
+            (subst (λ x. Contains f.contraries (x, from.0.1)) first is.0)) low high,
+      )
 
   -- ---- heads
 

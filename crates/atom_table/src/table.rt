@@ -24,13 +24,15 @@ fn place_of(atom: &Atom, places: usize) -> usize {
         Atom::Member(a) | Atom::Der(_, a) => a,
         Atom::Live(a) | Atom::Asm(a) => a.wrapping_mul(3).wrapping_add(1),
         Atom::Attack(b, a) | Atom::Con(b, a) | Atom::Head(b, a) | Atom::Body(b, a) => mixed(b, a),
-        Atom::Gap(a, i, j) | Atom::HGap(a, i, j) | Atom::BGap(a, i, j) => mixed(mixed(a, i), j),
+        Atom::Gap(a, i, j) | Atom::ConGap(a, i, j) | Atom::HGap(a, i, j) | Atom::BGap(a, i, j) =>
+            mixed(mixed(a, i), j),
         Atom::Tail(a, i) | Atom::Miss(_, a, i) => a
             .wrapping_mul(5)
             .wrapping_add(i.wrapping_mul(17)),
         Atom::Unmet(a, i) | Atom::Sup(_, a, i) => a
             .wrapping_mul(11)
             .wrapping_add(i.wrapping_mul(19)),
+        Atom::Hit(_, a, i) => a.wrapping_mul(13).wrapping_add(i.wrapping_mul(21)),
         Atom::Range(a) => a.wrapping_mul(9).wrapping_add(2),
         Atom::Ask(n) => n.wrapping_mul(33),
         Atom::Cf => 0,

@@ -22,12 +22,12 @@ use Rattle.iccma_tasks.proofs.RoundTrip.{lines_from-more, written_set}
 use Rattle.semantics.specs.Arguments.{IsArgument}
 use Rattle.meaning_atoms.specs.declared.atom.Atom.{Atom}
 use Rattle.meaning_atoms.specs.declared.atom.Atom.TheVariants.{Member, Live, Attack, Gap, Tail, Unmet, Range, Cf, Ad, Co, St, Ask}
-use Rattle.meaning_atoms.specs.declared.atom.Atom.TheVariants.{Asm, Con, Head, HGap, Body, BGap, Der, Miss, Sup}
+use Rattle.meaning_atoms.specs.declared.atom.Atom.TheVariants.{Asm, Con, ConGap, Head, HGap, Body, BGap, Der, Miss, Sup, Hit}
 use Rattle.meaning_atoms.specs.declared.atom.AtomLit.{AtomLit}
 use Rattle.meaning_atoms.specs.declared.axiom.AfAxiom.{AfAxiom}
 use Rattle.meaning_atoms.specs.declared.axiom.AfAxiom.TheVariants.{A1, A2, A3, A4, A5, A6, A7, A8, A9, A10, A11, A12, A13, A14}
 use Rattle.meaning_atoms.specs.declared.aba_axiom.AbaAxiom.{AbaAxiom}
-use Rattle.meaning_atoms.specs.declared.aba_axiom.AbaAxiom.TheVariants.{B1, B2, B3, B4, B5, B6, B7, B8, B9, B9Con, B10, B11, B12, B13, B14, B15, B16, B17}
+use Rattle.meaning_atoms.specs.declared.aba_axiom.AbaAxiom.TheVariants.{B1, B2, B3, B4, B5, B6, B7, B8, B9, B9Con, B10, B11, B12, B13, B14, B15, B16, B17, B18, B19}
 use Rattle.meaning_atoms.specs.declared.axiom.AxiomName.{AxiomName}
 use Rattle.meaning_atoms.specs.declared.axiom.AxiomName.TheVariants.{Af, Aba}
 use Rattle.meaning_atoms.specs.Atoms.{IsLit}
@@ -187,6 +187,7 @@ name_in_line St = in_line_from _ (omega arith) refl refl
 name_in_line (Ask n) = in_line_from _ (omega arith) refl refl
 name_in_line (Asm a) = in_line_from _ (omega arith) refl refl
 name_in_line (Con a c) = in_line_from _ (omega arith) refl refl
+name_in_line (ConGap a i j) = in_line_from _ (omega arith) refl refl
 name_in_line (Head r h) = in_line_from _ (omega arith) refl refl
 name_in_line (HGap h i j) = in_line_from _ (omega arith) refl refl
 name_in_line (Body r x) = in_line_from _ (omega arith) refl refl
@@ -194,6 +195,7 @@ name_in_line (BGap r i j) = in_line_from _ (omega arith) refl refl
 name_in_line (Der k x) = in_line_from _ (omega arith) refl refl
 name_in_line (Miss k r i) = in_line_from _ (omega arith) refl refl
 name_in_line (Sup k x i) = in_line_from _ (omega arith) refl refl
+name_in_line (Hit k a i) = in_line_from _ (omega arith) refl refl
 
 signed_in_line : (positive : Bool) (name : List ℕ) → IsInLine name → IsInLine (signed positive name)
 signed_in_line true name is = is
@@ -290,7 +292,7 @@ af_in_line (A14 part) = in_line_from _ (omega arith) refl refl
 aba_in_line : (which : AbaAxiom) → IsInLine (aba_name which)
 aba_in_line (B1 a) = in_line_from _ (omega arith) refl refl
 aba_in_line (B2 a) = in_line_from _ (omega arith) refl refl
-aba_in_line (B3 a c) = in_line_from _ (omega arith) refl refl
+aba_in_line (B3 a) = in_line_from _ (omega arith) refl refl
 aba_in_line (B4 k) = in_line_from _ (omega arith) refl refl
 aba_in_line (B5 k r h) = in_line_from _ (omega arith) refl refl
 aba_in_line (B6 k r x) = in_line_from _ (omega arith) refl refl
@@ -302,10 +304,12 @@ aba_in_line (B10 k x i j) = in_line_from _ (omega arith) refl refl
 aba_in_line (B11 k x i) = in_line_from _ (omega arith) refl refl
 aba_in_line (B12 a c) = in_line_from _ (omega arith) refl refl
 aba_in_line (B13 a c) = in_line_from _ (omega arith) refl refl
-aba_in_line (B14 a c) = in_line_from _ (omega arith) refl refl
-aba_in_line (B15 a c) = in_line_from _ (omega arith) refl refl
+aba_in_line (B14 a) = in_line_from _ (omega arith) refl refl
+aba_in_line (B15 a) = in_line_from _ (omega arith) refl refl
 aba_in_line (B16 part) = in_line_from _ (omega arith) refl refl
 aba_in_line (B17 k x rows) = in_line_from _ (omega arith) refl refl
+aba_in_line (B18 k a i j) = in_line_from _ (omega arith) refl refl
+aba_in_line (B19 k a i) = in_line_from _ (omega arith) refl refl
 
 axiom_in_line : (which : AxiomName) → IsInLine (axiom_name which)
 axiom_in_line (Af which) = af_in_line which

@@ -26,8 +26,10 @@ use Rattle.meaning_atoms.specs.AbaReadings.{
   HasBodyGap,
   HasContrary,
   HasHead,
+  HasHit,
   HasMiss,
   HasNoAtom,
+  HasNoContrary,
   HasNoHead,
   HasRule,
   HasSupport,
@@ -86,6 +88,22 @@ decide_contrary f a c =
     (decide_some (λ (p : ℕ × ℕ). (p.0 ≡ a) × (p.1 ≡ c)) (λ p. decide_both (cases_eq p.0 a) (cases_eq p.1 c))
     f.contraries)
 
+-- a is an assumption with no contrary from i to just before j
+pub decide_no_contrary : (f : Aba) (a i j : ℕ) → Decided (HasNoContrary f a i j)
+decide_no_contrary f a i j =
+    let In : ℕ × ℕ → Type 0 = λ p. (p.0 ≡ a) × ((i ≤ p.1) × (p.1 < j)) in
+    ⊎_elim
+    (λ is. ⊎_elim
+    (λ some. inr (λ gap. gap.none some.0.1 (subst (λ x. HasContrary f x some.0.1) some.2.0 some.1) some.2.1.0 some.2.1.1))
+    (λ none. inl (record {
+      assumption = is;
+      none = λ c has low high. none ((a, c), has, (refl, (low, high)));
+    }))
+    (decide_some In (λ p. decide_both (cases_eq p.0 a) (decide_both (decide_at_most i p.1) (decide_below p.1 j)))
+    f.contraries))
+    (λ no. inr (λ gap. no gap.assumption))
+    (decide_member f.assumptions a)
+
 pub decide_head : (f : Aba) (r h : ℕ) → Decided (HasHead f r h)
 decide_head f r h = decide_rule f r (λ rule. rule.head ≡ h) (λ rule. cases_eq rule.head h)
 
@@ -139,3 +157,22 @@ decide_support f s k x i =
     (λ rule. (i ≤ rule.number) × ((rule.head ≡ x) × ((y : ℕ) → Contains rule.body y → IsInClosure f s k y)))
     (λ rule. decide_both (decide_at_most i rule.number) (decide_both (cases_eq rule.head x)
     (decide_each (λ y. IsInClosure f s k y) (λ y. decide_closure f s k y) rule.body))) f.rules)
+
+-- a is an assumption with a contrary in the closure, of number i or more
+pub decide_hit : (f : Aba) (s : List ℕ) (k : Closure) (a i : ℕ) → Decided (HasHit f s k a i)
+decide_hit f s k a i =
+    let Late : ℕ × ℕ → Type 0 = λ p. (p.0 ≡ a) × ((i ≤ p.1) × IsInClosure f s k p.1) in
+    ⊎_elim
+    (λ is. ⊎_elim
+    (λ some. inl (record {
+      assumption = is;
+      contrary = some.0.1;
+      is = subst (λ x. HasContrary f x some.0.1) some.2.0 some.1;
+      late = some.2.1.0;
+      derived = some.2.1.1;
+    }))
+    (λ none. inr (λ h. none ((a, h.contrary), h.is, (refl, (h.late, h.derived)))))
+    (decide_some Late (λ p. decide_both (cases_eq p.0 a)
+    (decide_both (decide_at_most i p.1) (decide_closure f s k p.1))) f.contraries))
+    (λ no. inr (λ h. no h.assumption))
+    (decide_member f.assumptions a)

@@ -5,7 +5,7 @@ use Rattle.std.specs.Str.{bytes_eq}
 use Rattle.num_text.specs.Number.{IsNumber}
 use Rattle.meaning_atoms.specs.declared.atom.Atom.{Atom}
 use Rattle.meaning_atoms.specs.declared.atom.Atom.TheVariants.{Member, Live, Attack, Gap, Tail, Unmet, Range, Cf, Ad, Co, St, Ask}
-use Rattle.meaning_atoms.specs.declared.atom.Atom.TheVariants.{Asm, Con, Head, HGap, Body, BGap, Der, Miss, Sup}
+use Rattle.meaning_atoms.specs.declared.atom.Atom.TheVariants.{Asm, Con, ConGap, Head, HGap, Body, BGap, Der, Miss, Sup, Hit}
 use Rattle.meaning_atoms.specs.declared.atom.Closure.{Closure}
 use Rattle.meaning_atoms.specs.declared.atom.Closure.TheVariants.{Own, Rest}
 use Rattle.meaning_atoms.specs.declared.atom.AtomLit.{AtomLit}
@@ -13,7 +13,7 @@ use Rattle.meaning_atoms.specs.declared.axiom.AfAxiom.{AfAxiom}
 use Rattle.meaning_atoms.specs.declared.axiom.AfAxiom.TheVariants.{A1, A2, A3, A4, A5, A6, A7, A8, A9, A10, A11, A12, A13, A14}
 use Rattle.meaning_atoms.specs.AtomText.{IsLitText, is_colon, name_of, numbers_of, signed}
 use Rattle.meaning_atoms.specs.declared.aba_axiom.AbaAxiom.{AbaAxiom}
-use Rattle.meaning_atoms.specs.declared.aba_axiom.AbaAxiom.TheVariants.{B1, B2, B3, B4, B5, B6, B7, B8, B9, B9Con, B10, B11, B12, B13, B14, B15, B16, B17}
+use Rattle.meaning_atoms.specs.declared.aba_axiom.AbaAxiom.TheVariants.{B1, B2, B3, B4, B5, B6, B7, B8, B9, B9Con, B10, B11, B12, B13, B14, B15, B16, B17, B18, B19}
 use Rattle.meaning_atoms.specs.declared.axiom.AxiomName.{AxiomName}
 use Rattle.meaning_atoms.specs.declared.axiom.AxiomName.TheVariants.{Af, Aba}
 use Rattle.meaning_atoms.specs.AxiomText.{IsAxiomFields, aba_arguments, aba_name, af_arguments, af_name, axiom_arguments, axiom_name}
@@ -55,9 +55,11 @@ of_two name a b =
 
 abbrev of_three : List ℕ → ℕ → ℕ → ℕ → Atom
 of_three name a i j =
-    if bytes_eq name (codes "HGap") then HGap a i j else if bytes_eq name (codes "BGap") then BGap a i j
+    if bytes_eq name (codes "ConGap") then ConGap a i j else if bytes_eq name (codes "HGap") then HGap a i j
+    else if bytes_eq name (codes "BGap") then BGap a i j
     else if bytes_eq name (codes "Miss") then Miss (closure_from a) i j
-    else if bytes_eq name (codes "Sup") then Sup (closure_from a) i j else Gap a i j
+    else if bytes_eq name (codes "Sup") then Sup (closure_from a) i j
+    else if bytes_eq name (codes "Hit") then Hit (closure_from a) i j else Gap a i j
 
 -- the atom of a name and its numbers
 abbrev atom_from : List ℕ → List ℕ → Atom
@@ -81,6 +83,7 @@ rebuilt St = refl
 rebuilt (Ask n) = refl
 rebuilt (Asm a) = refl
 rebuilt (Con a c) = refl
+rebuilt (ConGap a i j) = refl
 rebuilt (Head r h) = refl
 rebuilt (HGap h i j) = refl
 rebuilt (Body r x) = refl
@@ -91,6 +94,8 @@ rebuilt (Miss Own r i) = refl
 rebuilt (Miss Rest r i) = refl
 rebuilt (Sup Own x i) = refl
 rebuilt (Sup Rest x i) = refl
+rebuilt (Hit Own a i) = refl
+rebuilt (Hit Rest a i) = refl
 
 abbrev sign_in : List ℕ → Bool
 sign_in text = not (get_or text 0 0 == 45)
@@ -118,6 +123,7 @@ plain St = record { long = omega arith; no_sign = refl; whole = refl }
 plain (Ask n) = record { long = omega arith; no_sign = refl; whole = refl }
 plain (Asm a) = record { long = omega arith; no_sign = refl; whole = refl }
 plain (Con a c) = record { long = omega arith; no_sign = refl; whole = refl }
+plain (ConGap a i j) = record { long = omega arith; no_sign = refl; whole = refl }
 plain (Head r h) = record { long = omega arith; no_sign = refl; whole = refl }
 plain (HGap h i j) = record { long = omega arith; no_sign = refl; whole = refl }
 plain (Body r x) = record { long = omega arith; no_sign = refl; whole = refl }
@@ -125,6 +131,7 @@ plain (BGap r i j) = record { long = omega arith; no_sign = refl; whole = refl }
 plain (Der k x) = record { long = omega arith; no_sign = refl; whole = refl }
 plain (Miss k r i) = record { long = omega arith; no_sign = refl; whole = refl }
 plain (Sup k x i) = record { long = omega arith; no_sign = refl; whole = refl }
+plain (Hit k a i) = record { long = omega arith; no_sign = refl; whole = refl }
 
 sign_found : (positive : Bool) (name : List ℕ) → IsPlainName name → sign_in (signed positive name) ≡ positive
 sign_found true name is = is.no_sign
@@ -214,24 +221,26 @@ af_rebuilt (A14 part) = refl
 abbrev aba_one : List ℕ → ℕ → AbaAxiom
 aba_one name a =
     if bytes_eq name (codes "B1") then B1 a else if bytes_eq name (codes "B2") then B2 a
-    else if bytes_eq name (codes "B4") then B4 (closure_from a) else B16 a
+    else if bytes_eq name (codes "B3") then B3 a else if bytes_eq name (codes "B4") then B4 (closure_from a)
+    else if bytes_eq name (codes "B14") then B14 a else if bytes_eq name (codes "B15") then B15 a else B16 a
 
 abbrev aba_two : List ℕ → ℕ → ℕ → AbaAxiom
 aba_two name a b =
-    if bytes_eq name (codes "B3") then B3 a b else if bytes_eq name (codes "B9") then B9 (closure_from a) b
-    else if bytes_eq name (codes "B12") then B12 a b else if bytes_eq name (codes "B13") then B13 a b
-    else if bytes_eq name (codes "B14") then B14 a b else B15 a b
+    if bytes_eq name (codes "B9") then B9 (closure_from a) b
+    else if bytes_eq name (codes "B12") then B12 a b else B13 a b
 
 abbrev aba_three : List ℕ → ℕ → ℕ → ℕ → AbaAxiom
 aba_three name a b c =
     if bytes_eq name (codes "B5") then B5 (closure_from a) b c
     else if bytes_eq name (codes "B6") then B6 (closure_from a) b c
     else if bytes_eq name (codes "B8") then B8 (closure_from a) b c
-    else if bytes_eq name (codes "B11") then B11 (closure_from a) b c else B9Con b c
+    else if bytes_eq name (codes "B11") then B11 (closure_from a) b c
+    else if bytes_eq name (codes "B19") then B19 (closure_from a) b c else B9Con b c
 
 abbrev aba_four : List ℕ → ℕ → ℕ → ℕ → ℕ → AbaAxiom
 aba_four name a b i j =
-    if bytes_eq name (codes "B7") then B7 (closure_from a) b i j else B10 (closure_from a) b i j
+    if bytes_eq name (codes "B7") then B7 (closure_from a) b i j
+    else if bytes_eq name (codes "B10") then B10 (closure_from a) b i j else B18 (closure_from a) b i j
 
 abbrev loop_from : List ℕ → AbaAxiom
 loop_from (k ∷ x ∷ ns) = B17 (closure_from k) x (loop_read ns)
@@ -250,7 +259,7 @@ aba_from name numbers = if bytes_eq name (codes "B17") then loop_from numbers el
 aba_rebuilt : (which : AbaAxiom) → aba_from (aba_name which) (aba_arguments which) ≡ which
 aba_rebuilt (B1 a) = refl
 aba_rebuilt (B2 a) = refl
-aba_rebuilt (B3 a c) = refl
+aba_rebuilt (B3 a) = refl
 aba_rebuilt (B4 Own) = refl
 aba_rebuilt (B4 Rest) = refl
 aba_rebuilt (B5 Own r h) = refl
@@ -270,11 +279,15 @@ aba_rebuilt (B11 Own x i) = refl
 aba_rebuilt (B11 Rest x i) = refl
 aba_rebuilt (B12 a c) = refl
 aba_rebuilt (B13 a c) = refl
-aba_rebuilt (B14 a c) = refl
-aba_rebuilt (B15 a c) = refl
+aba_rebuilt (B14 a) = refl
+aba_rebuilt (B15 a) = refl
 aba_rebuilt (B16 part) = refl
 aba_rebuilt (B17 Own x rows) = ap (λ rs. B17 Own x rs) (loop_back rows)
 aba_rebuilt (B17 Rest x rows) = ap (λ rs. B17 Rest x rs) (loop_back rows)
+aba_rebuilt (B18 Own a i j) = refl
+aba_rebuilt (B18 Rest a i j) = refl
+aba_rebuilt (B19 Own a i) = refl
+aba_rebuilt (B19 Rest a i) = refl
 
 -- the axiom of a name and its numbers
 abbrev axiom_from : List ℕ → List ℕ → AxiomName
@@ -299,7 +312,7 @@ af_first (A14 part) = refl
 aba_first : (which : AbaAxiom) → (get_or (aba_name which) 0 0 == 65) ≡ false
 aba_first (B1 a) = refl
 aba_first (B2 a) = refl
-aba_first (B3 a c) = refl
+aba_first (B3 a) = refl
 aba_first (B4 k) = refl
 aba_first (B5 k r h) = refl
 aba_first (B6 k r x) = refl
@@ -311,10 +324,12 @@ aba_first (B10 k x i j) = refl
 aba_first (B11 k x i) = refl
 aba_first (B12 a c) = refl
 aba_first (B13 a c) = refl
-aba_first (B14 a c) = refl
-aba_first (B15 a c) = refl
+aba_first (B14 a) = refl
+aba_first (B15 a) = refl
 aba_first (B16 part) = refl
 aba_first (B17 k x rows) = refl
+aba_first (B18 k a i j) = refl
+aba_first (B19 k a i) = refl
 
 axiom_rebuilt : (which : AxiomName) → axiom_from (axiom_name which) (axiom_arguments which) ≡ which
 axiom_rebuilt (Af which) =

@@ -6,11 +6,11 @@ use Rattle.std.specs.Ordering.{ordering_then, bool_cmp, is_eq}
 use Rattle.std.proofs.Math.Bool.{beq}
 use Rattle.std.specs.declared.cmp.Ordering.{Ordering}
 use Rattle.std.specs.declared.cmp.Ordering.TheVariants.{Less, Equal, Greater}
-use Rattle.std.proofs.lemmas.Bool.{cases_eq, and_from, and_parts}
+use Rattle.std.proofs.lemmas.Bool.{cases_eq, and_from, and_parts, false≢true}
 use Rattle.aba_laws.specs.semantics.proofs.Decided.{Decided}
 use Rattle.meaning_atoms.specs.declared.atom.Atom.{Atom}
 use Rattle.meaning_atoms.specs.declared.atom.Atom.TheVariants.{Member, Live, Attack, Gap, Tail, Unmet, Range, Cf, Ad, Co, St, Ask}
-use Rattle.meaning_atoms.specs.declared.atom.Atom.TheVariants.{Asm, Con, Head, HGap, Body, BGap, Der, Miss, Sup}
+use Rattle.meaning_atoms.specs.declared.atom.Atom.TheVariants.{Asm, Con, ConGap, Head, HGap, Body, BGap, Der, Miss, Sup, Hit}
 use Rattle.meaning_atoms.specs.declared.atom.Closure.{Closure}
 use Rattle.meaning_atoms.specs.declared.atom.Closure.TheVariants.{Own, Rest}
 use Rattle.meaning_atoms.specs.declared.atom.AtomLit.{AtomLit}
@@ -57,6 +57,7 @@ same_atom St St = inl cc
 same_atom (Ask a) (Ask b) = one Ask a b (λ e. cc)
 same_atom (Asm a) (Asm b) = one Asm a b (λ e. cc)
 same_atom (Con a b) (Con c d) = two Con a b c d (λ e. cc) (λ e. cc)
+same_atom (ConGap a i j) (ConGap b k l) = three ConGap a i j b k l (λ e. cc) (λ e. cc) (λ e. cc)
 same_atom (Head a b) (Head c d) = two Head a b c d (λ e. cc) (λ e. cc)
 same_atom (HGap a i j) (HGap b k l) = three HGap a i j b k l (λ e. cc) (λ e. cc) (λ e. cc)
 same_atom (Body a b) (Body c d) = two Body a b c d (λ e. cc) (λ e. cc)
@@ -67,6 +68,8 @@ same_atom (Miss Own a i) (Miss Own b j) = two (Miss Own) a i b j (λ e. cc) (λ 
 same_atom (Miss Rest a i) (Miss Rest b j) = two (Miss Rest) a i b j (λ e. cc) (λ e. cc)
 same_atom (Sup Own a i) (Sup Own b j) = two (Sup Own) a i b j (λ e. cc) (λ e. cc)
 same_atom (Sup Rest a i) (Sup Rest b j) = two (Sup Rest) a i b j (λ e. cc) (λ e. cc)
+same_atom (Hit Own a i) (Hit Own b j) = two (Hit Own) a i b j (λ e. cc) (λ e. cc)
+same_atom (Hit Rest a i) (Hit Rest b j) = two (Hit Rest) a i b j (λ e. cc) (λ e. cc)
 same_atom _ _ = inr (λ e. absurd (cc))
 
 same_sign : (s t : Bool) → Decided (s ≡ t)
@@ -87,8 +90,37 @@ same_literal k l =
 
 -- ---- the derived comparisons
 
+atom_same : (x y : Atom) → (atom_eq).it x y ≡ true → x ≡ y
+atom_same (Member a) (Member b) = search rules
+atom_same (Live a) (Live b) = search rules
+atom_same (Attack a b) (Attack c d) = search rules
+atom_same (Gap a i j) (Gap b k l) = search rules
+atom_same (Tail a i) (Tail b j) = search rules
+atom_same (Unmet a i) (Unmet b j) = search rules
+atom_same (Range a) (Range b) = search rules
+atom_same Cf Cf = λ e. refl
+atom_same Ad Ad = λ e. refl
+atom_same Co Co = λ e. refl
+atom_same St St = λ e. refl
+atom_same (Ask a) (Ask b) = search rules
+atom_same (Asm a) (Asm b) = search rules
+atom_same (Con a b) (Con c d) = search rules
+atom_same (ConGap a i j) (ConGap b k l) = search rules
+atom_same (Head a b) (Head c d) = search rules
+atom_same (HGap a i j) (HGap b k l) = search rules
+atom_same (Body a b) (Body c d) = search rules
+atom_same (BGap a i j) (BGap b k l) = search rules
+atom_same (Der k a) (Der l b) = search rules
+atom_same (Miss k a i) (Miss l b j) = search rules
+atom_same (Sup k a i) (Sup l b j) = search rules
+atom_same (Hit k a i) (Hit l b j) = search rules
+atom_same x y = λ e. absurd (false≢true e)
+
+atom_itself : (x : Atom) → (atom_eq).it x x ≡ true
+atom_itself x = search rules
+
 pub atom_decides : (x y : Atom) → ((atom_eq).it x y ≡ true) ↔ (x ≡ y)
-atom_decides x y = search rules
+atom_decides x y = (atom_same x y, λ e. rw (sym e) (atom_itself x))
 
 sign_decides : (s t : Bool) → (beq s t ≡ true) ↔ (s ≡ t)
 sign_decides s t = search rules

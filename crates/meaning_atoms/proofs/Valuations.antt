@@ -4,7 +4,7 @@ use Rattle.std.specs.Prelude.{◌↔◌, slice_index_or}
 use Rattle.std.proofs.lemmas.Bool.{cases_eq}
 use Rattle.meaning_atoms.specs.declared.atom.Atom.{Atom}
 use Rattle.meaning_atoms.specs.declared.atom.Atom.TheVariants.{Member, Live, Attack, Gap, Tail, Unmet, Range, Cf, Ad, Co, St, Ask}
-use Rattle.meaning_atoms.specs.declared.atom.Atom.TheVariants.{Asm, Con, Head, HGap, Body, BGap, Der, Miss, Sup}
+use Rattle.meaning_atoms.specs.declared.atom.Atom.TheVariants.{Asm, Con, ConGap, Head, HGap, Body, BGap, Der, Miss, Sup, Hit}
 use Rattle.meaning_atoms.specs.declared.atom.AtomLit.{AtomLit}
 use Rattle.aba_laws.specs.semantics.specs.Frameworks.{Framework, af, aba}
 use Rattle.aba_laws.specs.semantics.specs.Framework.{Af, Attacks, IsAttackedBy}
@@ -14,7 +14,7 @@ use Rattle.meaning_atoms.specs.Valuations.{HasValuation}
 use Rattle.aba_laws.specs.semantics.proofs.Decided.{Decided, decide_both, decide_either, decide_not, decide_some, decide_at_most, decide_below}
 use Rattle.aba_laws.specs.semantics.proofs.Decided.{decide_member, decide_attacks, decide_attacked}
 use Rattle.meaning_atoms.proofs.AbaDecided.{decide_body_atom, decide_body_gap, decide_closure, decide_contrary, decide_head}
-use Rattle.meaning_atoms.proofs.AbaDecided.{decide_miss, decide_no_head, decide_support}
+use Rattle.meaning_atoms.proofs.AbaDecided.{decide_hit, decide_miss, decide_no_contrary, decide_no_head, decide_support}
 use Rattle.meaning_atoms.proofs.AbaDecided.{
   decide_admissible as decide_collective_admissible,
   decide_complete as decide_collective_complete,
@@ -71,12 +71,14 @@ decide_of_af f s St = decide_stable f s
 decide_of_af f s (Asm a) = inl tt
 decide_of_af f s (Der k x) = decide_at_most 1 x
 decide_of_af f s (Sup k x i) = inl tt
+decide_of_af f s (Hit k a i) = inl tt
 decide_of_af f s _ = inr (λ h. h)
 
 decide_of_aba : (f : Aba) (s : List ℕ) (atom : Atom) → Decided (HoldsOfAba f s atom)
 decide_of_aba f s (Member a) = decide_member s a
 decide_of_aba f s (Asm a) = decide_member f.assumptions a
 decide_of_aba f s (Con a c) = decide_contrary f a c
+decide_of_aba f s (ConGap a i j) = decide_no_contrary f a i j
 decide_of_aba f s (Head r h) = decide_head f r h
 decide_of_aba f s (HGap h i j) = decide_no_head f h i j
 decide_of_aba f s (Body r x) = decide_body_atom f r x
@@ -84,6 +86,7 @@ decide_of_aba f s (BGap r i j) = decide_body_gap f r i j
 decide_of_aba f s (Der k x) = decide_closure f s k x
 decide_of_aba f s (Miss k r i) = decide_miss f s k r i
 decide_of_aba f s (Sup k x i) = decide_support f s k x i
+decide_of_aba f s (Hit k a i) = decide_hit f s k a i
 decide_of_aba f s Cf = decide_collective_free f s
 decide_of_aba f s Ad = decide_collective_admissible f s
 decide_of_aba f s Co = decide_collective_complete f s

@@ -11,7 +11,7 @@ use Rattle.meaning_atoms.specs.Atoms.{IsPosition}
 use Rattle.meaning_atoms.specs.declared.axiom.AfAxiom.{AfAxiom}
 use Rattle.meaning_atoms.specs.declared.axiom.AfAxiom.TheVariants.{A1, A2, A3, A4, A5, A6, A7, A8, A9, A10, A11, A12, A13, A14}
 use Rattle.meaning_atoms.specs.declared.aba_axiom.AbaAxiom.{AbaAxiom}
-use Rattle.meaning_atoms.specs.declared.aba_axiom.AbaAxiom.TheVariants.{B1, B2, B3, B4, B5, B6, B7, B8, B9, B9Con, B10, B11, B12, B13, B14, B15, B16, B17}
+use Rattle.meaning_atoms.specs.declared.aba_axiom.AbaAxiom.TheVariants.{B1, B2, B3, B4, B5, B6, B7, B8, B9, B9Con, B10, B11, B12, B13, B14, B15, B16, B17, B18, B19}
 use Rattle.meaning_atoms.specs.declared.axiom.AxiomName.{AxiomName}
 use Rattle.meaning_atoms.specs.declared.axiom.AxiomName.TheVariants.{Af, Aba}
 use Rattle.meaning_atoms.specs.Axioms.{IsAfAxiom, IsStretch}
@@ -54,7 +54,7 @@ af_field (A14 part) = field_from _ (omega arith) refl
 aba_field : (which : AbaAxiom) → IsField (aba_name which)
 aba_field (B1 a) = field_from _ (omega arith) refl
 aba_field (B2 a) = field_from _ (omega arith) refl
-aba_field (B3 a c) = field_from _ (omega arith) refl
+aba_field (B3 a) = field_from _ (omega arith) refl
 aba_field (B4 k) = field_from _ (omega arith) refl
 aba_field (B5 k r h) = field_from _ (omega arith) refl
 aba_field (B6 k r x) = field_from _ (omega arith) refl
@@ -66,10 +66,12 @@ aba_field (B10 k x i j) = field_from _ (omega arith) refl
 aba_field (B11 k x i) = field_from _ (omega arith) refl
 aba_field (B12 a c) = field_from _ (omega arith) refl
 aba_field (B13 a c) = field_from _ (omega arith) refl
-aba_field (B14 a c) = field_from _ (omega arith) refl
-aba_field (B15 a c) = field_from _ (omega arith) refl
+aba_field (B14 a) = field_from _ (omega arith) refl
+aba_field (B15 a) = field_from _ (omega arith) refl
 aba_field (B16 part) = field_from _ (omega arith) refl
 aba_field (B17 k x rows) = field_from _ (omega arith) refl
+aba_field (B18 k a i j) = field_from _ (omega arith) refl
+aba_field (B19 k a i) = field_from _ (omega arith) refl
 
 pub axiom_field : (which : AxiomName) → IsField (axiom_name which)
 axiom_field (Af which) = af_field which
@@ -101,7 +103,7 @@ stretch_words a i j h =
 aba_small : (which : AbaAxiom) → IsAbaAxiom which → AreWords (aba_arguments which)
 aba_small (B1 a) h = (argument_word a h, tt)
 aba_small (B2 a) h = (argument_word a h, tt)
-aba_small (B3 a c) h = (argument_word a h.0, (atom_word c h.1, tt))
+aba_small (B3 a) h = (argument_word a h, tt)
 aba_small (B4 k) h = (closure_word k, tt)
 aba_small (B5 k r x) h = (closure_word k, (argument_word r h.0, (argument_word x h.1, tt)))
 aba_small (B6 k r x) h = (closure_word k, (argument_word r h.0, (argument_word x h.1, tt)))
@@ -113,10 +115,12 @@ aba_small (B10 k x i j) h = let w = stretch_words x i j h in (closure_word k, (w
 aba_small (B11 k x i) h = (closure_word k, (argument_word x h.0, (place_word i h.1, tt)))
 aba_small (B12 a c) h = (argument_word a h.0, (atom_word c h.1, tt))
 aba_small (B13 a c) h = (argument_word a h.0, (atom_word c h.1, tt))
-aba_small (B14 a c) h = (argument_word a h.0, (atom_word c h.1, tt))
-aba_small (B15 a c) h = (argument_word a h.0, (atom_word c h.1, tt))
+aba_small (B14 a) h = (argument_word a h, tt)
+aba_small (B15 a) h = (argument_word a h, tt)
 aba_small (B16 part) h = (omega arith, tt)
 aba_small (B17 k x rows) h = (closure_word k, (loop_atom_word x rows h, loop_small x rows h))
+aba_small (B18 k a i j) h = let w = stretch_words a i j h in (closure_word k, (w.0, (w.1, (w.2, tt))))
+aba_small (B19 k a i) h = (closure_word k, (argument_word a h.0, (place_word i h.1, tt)))
 
 pub arguments_small : (which : AxiomName) → IsAxiomName which → AreWords (axiom_arguments which)
 arguments_small (Af which) h = af_small which h

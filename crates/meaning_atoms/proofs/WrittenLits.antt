@@ -10,7 +10,7 @@ use Rattle.num_text.specs.Number.{IsNumber, IsDigit}
 use Rattle.num_text.proofs.Decimals.{decimal_number}
 use Rattle.meaning_atoms.specs.declared.atom.Atom.{Atom}
 use Rattle.meaning_atoms.specs.declared.atom.Atom.TheVariants.{Member, Live, Attack, Gap, Tail, Unmet, Range, Cf, Ad, Co, St, Ask}
-use Rattle.meaning_atoms.specs.declared.atom.Atom.TheVariants.{Asm, Con, Head, HGap, Body, BGap, Der, Miss, Sup}
+use Rattle.meaning_atoms.specs.declared.atom.Atom.TheVariants.{Asm, Con, ConGap, Head, HGap, Body, BGap, Der, Miss, Sup, Hit}
 use Rattle.meaning_atoms.specs.declared.atom.Closure.{Closure}
 use Rattle.meaning_atoms.specs.declared.atom.Closure.TheVariants.{Own, Rest}
 use Rattle.meaning_atoms.specs.declared.atom.AtomLit.{AtomLit}
@@ -68,6 +68,7 @@ name_free St = refl
 name_free (Ask n) = refl
 name_free (Asm a) = refl
 name_free (Con a c) = refl
+name_free (ConGap a i j) = refl
 name_free (Head r h) = refl
 name_free (HGap h i j) = refl
 name_free (Body r x) = refl
@@ -75,6 +76,7 @@ name_free (BGap r i j) = refl
 name_free (Der k x) = refl
 name_free (Miss k r i) = refl
 name_free (Sup k x i) = refl
+name_free (Hit k a i) = refl
 
 signed_free : (positive : Bool) (name : List ℕ) → tests_free name ≡ true → tests_free (signed positive name) ≡ true
 signed_free true name h = h
@@ -108,6 +110,7 @@ numbers_small St h = tt
 numbers_small (Ask n) h = (omega arith, tt)
 numbers_small (Asm a) h = (argument_word a h, tt)
 numbers_small (Con a c) h = (argument_word a h.0, (atom_word c h.1, tt))
+numbers_small (ConGap a i j) h = (argument_word a h.0, (place_word i h.1, (place_word j h.2, tt)))
 numbers_small (Head r k) h = (argument_word r h.0, (argument_word k h.1, tt))
 numbers_small (HGap a i j) h = (argument_word a h.0, (place_word i h.1, (place_word j h.2, tt)))
 numbers_small (Body r x) h = (argument_word r h.0, (argument_word x h.1, tt))
@@ -115,6 +118,7 @@ numbers_small (BGap a i j) h = (argument_word a h.0, (place_word i h.1, (place_w
 numbers_small (Der k x) h = (closure_word k, (atom_word x h, tt))
 numbers_small (Miss k r i) h = (closure_word k, (argument_word r h.0, (place_word i h.1, tt)))
 numbers_small (Sup k x i) h = (closure_word k, (atom_word x h.0, (place_word i h.1, tt)))
+numbers_small (Hit k a i) h = (closure_word k, (argument_word a h.0, (place_word i h.1, tt)))
 
 pub written_reads : (l : AtomLit) → IsLit l → IsLitText (lit_text l) l
 written_reads l fits =

@@ -5,7 +5,7 @@ use Rattle.std.specs.Fmt.{decimal}
 use Rattle.num_text.specs.Number.{IsNumber}
 use Rattle.meaning_atoms.specs.declared.atom.Atom.{Atom}
 use Rattle.meaning_atoms.specs.declared.atom.Atom.TheVariants.{Member, Live, Attack, Gap, Tail, Unmet, Range, Cf, Ad, Co, St, Ask}
-use Rattle.meaning_atoms.specs.declared.atom.Atom.TheVariants.{Asm, Con, Head, HGap, Body, BGap, Der, Miss, Sup}
+use Rattle.meaning_atoms.specs.declared.atom.Atom.TheVariants.{Asm, Con, ConGap, Head, HGap, Body, BGap, Der, Miss, Sup, Hit}
 use Rattle.meaning_atoms.specs.declared.atom.AtomLit.{AtomLit}
 use Rattle.meaning_atoms.specs.Atoms.{IsLit, closure_number}
 
@@ -24,6 +24,7 @@ name_of St = codes "St"
 name_of (Ask n) = codes "Ask"
 name_of (Asm a) = codes "Asm"
 name_of (Con a c) = codes "Con"
+name_of (ConGap a i j) = codes "ConGap"
 name_of (Head r h) = codes "Head"
 name_of (HGap h i j) = codes "HGap"
 name_of (Body r x) = codes "Body"
@@ -31,6 +32,7 @@ name_of (BGap r i j) = codes "BGap"
 name_of (Der k x) = codes "Der"
 name_of (Miss k r i) = codes "Miss"
 name_of (Sup k x i) = codes "Sup"
+name_of (Hit k a i) = codes "Hit"
 
 abbrev pub numbers_of : Atom → List ℕ
 numbers_of (Member a) = a ∷ []
@@ -47,6 +49,7 @@ numbers_of St = []
 numbers_of (Ask n) = n ∷ []
 numbers_of (Asm a) = a ∷ []
 numbers_of (Con a c) = a ∷ c ∷ []
+numbers_of (ConGap a i j) = a ∷ i ∷ j ∷ []
 numbers_of (Head r h) = r ∷ h ∷ []
 numbers_of (HGap h i j) = h ∷ i ∷ j ∷ []
 numbers_of (Body r x) = r ∷ x ∷ []
@@ -54,6 +57,7 @@ numbers_of (BGap r i j) = r ∷ i ∷ j ∷ []
 numbers_of (Der k x) = closure_number k ∷ x ∷ []
 numbers_of (Miss k r i) = closure_number k ∷ r ∷ i ∷ []
 numbers_of (Sup k x i) = closure_number k ∷ x ∷ i ∷ []
+numbers_of (Hit k a i) = closure_number k ∷ a ∷ i ∷ []
 
 -- a hyphen before the name says that the literal is negative
 abbrev pub signed : Bool → List ℕ → List ℕ

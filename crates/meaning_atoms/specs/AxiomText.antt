@@ -6,7 +6,7 @@ use Rattle.num_text.specs.Number.{IsNumber}
 use Rattle.meaning_atoms.specs.declared.axiom.AfAxiom.{AfAxiom}
 use Rattle.meaning_atoms.specs.declared.axiom.AfAxiom.TheVariants.{A1, A2, A3, A4, A5, A6, A7, A8, A9, A10, A11, A12, A13, A14}
 use Rattle.meaning_atoms.specs.declared.aba_axiom.AbaAxiom.{AbaAxiom}
-use Rattle.meaning_atoms.specs.declared.aba_axiom.AbaAxiom.TheVariants.{B1, B2, B3, B4, B5, B6, B7, B8, B9, B9Con, B10, B11, B12, B13, B14, B15, B16, B17}
+use Rattle.meaning_atoms.specs.declared.aba_axiom.AbaAxiom.TheVariants.{B1, B2, B3, B4, B5, B6, B7, B8, B9, B9Con, B10, B11, B12, B13, B14, B15, B16, B17, B18, B19}
 use Rattle.meaning_atoms.specs.declared.axiom.AxiomName.{AxiomName}
 use Rattle.meaning_atoms.specs.declared.axiom.AxiomName.TheVariants.{Af, Aba}
 use Rattle.meaning_atoms.specs.declared.loop_rows.LoopRow.{LoopRow}
@@ -48,7 +48,7 @@ af_arguments (A14 part) = part ∷ []
 abbrev pub aba_name : AbaAxiom → List ℕ
 aba_name (B1 a) = codes "B1"
 aba_name (B2 a) = codes "B2"
-aba_name (B3 a c) = codes "B3"
+aba_name (B3 a) = codes "B3"
 aba_name (B4 k) = codes "B4"
 aba_name (B5 k r h) = codes "B5"
 aba_name (B6 k r x) = codes "B6"
@@ -60,10 +60,12 @@ aba_name (B10 k x i j) = codes "B10"
 aba_name (B11 k x i) = codes "B11"
 aba_name (B12 a c) = codes "B12"
 aba_name (B13 a c) = codes "B13"
-aba_name (B14 a c) = codes "B14"
-aba_name (B15 a c) = codes "B15"
+aba_name (B14 a) = codes "B14"
+aba_name (B15 a) = codes "B15"
 aba_name (B16 part) = codes "B16"
 aba_name (B17 k x rows) = codes "B17"
+aba_name (B18 k a i j) = codes "B18"
+aba_name (B19 k a i) = codes "B19"
 
 abbrev pub pair_numbers : ℕ × ℕ → List ℕ
 pair_numbers p = p.0 ∷ (p.1 ∷ [])
@@ -79,7 +81,7 @@ loop_numbers rows = length rows ∷ (map (λ r. r.atom) rows ++ flat_map row_num
 abbrev pub aba_arguments : AbaAxiom → List ℕ
 aba_arguments (B1 a) = a ∷ []
 aba_arguments (B2 a) = a ∷ []
-aba_arguments (B3 a c) = a ∷ c ∷ []
+aba_arguments (B3 a) = a ∷ []
 aba_arguments (B4 k) = closure_number k ∷ []
 aba_arguments (B5 k r h) = closure_number k ∷ r ∷ h ∷ []
 aba_arguments (B6 k r x) = closure_number k ∷ r ∷ x ∷ []
@@ -91,10 +93,12 @@ aba_arguments (B10 k x i j) = closure_number k ∷ x ∷ i ∷ j ∷ []
 aba_arguments (B11 k x i) = closure_number k ∷ x ∷ i ∷ []
 aba_arguments (B12 a c) = a ∷ c ∷ []
 aba_arguments (B13 a c) = a ∷ c ∷ []
-aba_arguments (B14 a c) = a ∷ c ∷ []
-aba_arguments (B15 a c) = a ∷ c ∷ []
+aba_arguments (B14 a) = a ∷ []
+aba_arguments (B15 a) = a ∷ []
 aba_arguments (B16 part) = part ∷ []
 aba_arguments (B17 k x rows) = closure_number k ∷ (x ∷ loop_numbers rows)
+aba_arguments (B18 k a i j) = closure_number k ∷ a ∷ i ∷ j ∷ []
+aba_arguments (B19 k a i) = closure_number k ∷ a ∷ i ∷ []
 
 abbrev pub axiom_name : AxiomName → List ℕ
 axiom_name (Af which) = af_name which

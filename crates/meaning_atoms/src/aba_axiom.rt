@@ -50,7 +50,7 @@ impl Drop for AbaAxiom {
         match self {
             AbaAxiom::B1(_)
             | AbaAxiom::B2(_)
-            | AbaAxiom::B3(_, _)
+            | AbaAxiom::B3(_)
             | AbaAxiom::B4(_)
             | AbaAxiom::B5(_, _, _)
             | AbaAxiom::B6(_, _, _)
@@ -62,9 +62,11 @@ impl Drop for AbaAxiom {
             | AbaAxiom::B11(_, _, _)
             | AbaAxiom::B12(_, _)
             | AbaAxiom::B13(_, _)
-            | AbaAxiom::B14(_, _)
-            | AbaAxiom::B15(_, _)
+            | AbaAxiom::B14(_)
+            | AbaAxiom::B15(_)
             | AbaAxiom::B16(_)
+            | AbaAxiom::B18(_, _, _, _)
+            | AbaAxiom::B19(_, _, _)
             | AbaAxiom::B17 {
                 closure: _,
                 x: _,
@@ -83,17 +85,22 @@ impl AbaAxiom {
         ensures { IsTrue result ↔ IsAbaAxiom self.now }
     {
         match self {
-            AbaAxiom::B1(a) | AbaAxiom::B2(a) | AbaAxiom::B9(_, a) => is_argument(*a),
-            AbaAxiom::B3(a, c)
-            | AbaAxiom::B9Con(a, c)
-            | AbaAxiom::B12(a, c)
-            | AbaAxiom::B13(a, c)
-            | AbaAxiom::B14(a, c)
-            | AbaAxiom::B15(a, c) => is_argument(*a) && is_atom_or_none(*c),
+            AbaAxiom::B1(a)
+            | AbaAxiom::B2(a)
+            | AbaAxiom::B3(a)
+            | AbaAxiom::B9(_, a)
+            | AbaAxiom::B14(a)
+            | AbaAxiom::B15(a) => is_argument(*a),
+            AbaAxiom::B9Con(a, c) | AbaAxiom::B12(a, c) | AbaAxiom::B13(a, c) => is_argument(*a)
+                && is_atom_or_none(*c),
             AbaAxiom::B4(_) => true,
             AbaAxiom::B5(_, r, x) | AbaAxiom::B6(_, r, x) => is_argument(*r) && is_argument(*x),
-            AbaAxiom::B7(_, a, i, j) | AbaAxiom::B10(_, a, i, j) => is_stretch(*a, *i, *j),
-            AbaAxiom::B8(_, a, i) | AbaAxiom::B11(_, a, i) => is_argument(*a) && is_position(*i),
+            AbaAxiom::B7(_, a, i, j) | AbaAxiom::B10(_, a, i, j) | AbaAxiom::B18(_, a, i, j) => {
+                is_stretch(*a, *i, *j)
+            }
+            AbaAxiom::B8(_, a, i) | AbaAxiom::B11(_, a, i) | AbaAxiom::B19(_, a, i) => is_argument(
+                *a,
+            ) && is_position(*i),
             AbaAxiom::B16(part) => 1 <= *part && *part <= 3,
             AbaAxiom::B17 { x, rows, .. } => is_loop(*x, rows.as_slice()),
         }
@@ -106,7 +113,7 @@ impl AbaAxiom {
         match self {
             AbaAxiom::B1(_) => "B1",
             AbaAxiom::B2(_) => "B2",
-            AbaAxiom::B3(..) => "B3",
+            AbaAxiom::B3(_) => "B3",
             AbaAxiom::B4(_) => "B4",
             AbaAxiom::B5(..) => "B5",
             AbaAxiom::B6(..) => "B6",
@@ -117,10 +124,12 @@ impl AbaAxiom {
             AbaAxiom::B11(..) => "B11",
             AbaAxiom::B12(..) => "B12",
             AbaAxiom::B13(..) => "B13",
-            AbaAxiom::B14(..) => "B14",
-            AbaAxiom::B15(..) => "B15",
+            AbaAxiom::B14(_) => "B14",
+            AbaAxiom::B15(_) => "B15",
             AbaAxiom::B16(_) => "B16",
             AbaAxiom::B17 { .. } => "B17",
+            AbaAxiom::B18(..) => "B18",
+            AbaAxiom::B19(..) => "B19",
         }
     }
 
@@ -131,7 +140,7 @@ impl AbaAxiom {
         Ok(match self {
             AbaAxiom::B1(a) => AbaAxiom::B1(*a),
             AbaAxiom::B2(a) => AbaAxiom::B2(*a),
-            AbaAxiom::B3(a, c) => AbaAxiom::B3(*a, *c),
+            AbaAxiom::B3(a) => AbaAxiom::B3(*a),
             AbaAxiom::B4(k) => AbaAxiom::B4(*k),
             AbaAxiom::B5(k, r, h) => AbaAxiom::B5(*k, *r, *h),
             AbaAxiom::B6(k, r, x) => AbaAxiom::B6(*k, *r, *x),
@@ -143,14 +152,16 @@ impl AbaAxiom {
             AbaAxiom::B11(k, x, i) => AbaAxiom::B11(*k, *x, *i),
             AbaAxiom::B12(a, c) => AbaAxiom::B12(*a, *c),
             AbaAxiom::B13(a, c) => AbaAxiom::B13(*a, *c),
-            AbaAxiom::B14(a, c) => AbaAxiom::B14(*a, *c),
-            AbaAxiom::B15(a, c) => AbaAxiom::B15(*a, *c),
+            AbaAxiom::B14(a) => AbaAxiom::B14(*a),
+            AbaAxiom::B15(a) => AbaAxiom::B15(*a),
             AbaAxiom::B16(part) => AbaAxiom::B16(*part),
             AbaAxiom::B17 { closure, x, rows } => AbaAxiom::B17 {
                 closure: *closure,
                 x: *x,
                 rows: copy_rows(alloc, rows.as_slice())?,
             },
+            AbaAxiom::B18(k, a, i, j) => AbaAxiom::B18(*k, *a, *i, *j),
+            AbaAxiom::B19(k, a, i) => AbaAxiom::B19(*k, *a, *i),
         })
     }
 }

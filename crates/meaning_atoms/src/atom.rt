@@ -119,12 +119,10 @@ impl Atom {
             Atom::Gap(a, i, j)
             | Atom::HGap(a, i, j)
             | Atom::BGap(a, i, j)
-            | Atom::ConGap(a, i, j) => is_argument(a)
-                && is_position(i)
-                && is_position(j)
-                && i <= j,
-            Atom::Tail(a, i) | Atom::Unmet(a, i) | Atom::Miss(_, a, i) | Atom::Hit(_, a, i) => is_argument(a)
-                && is_position(i),
+            | Atom::ConGap(a, i, j) => is_argument(a) && is_position(i) && is_position(j) && i <= j,
+            Atom::Tail(a, i) | Atom::Unmet(a, i) | Atom::Miss(_, a, i) | Atom::Hit(_, a, i) => {
+                is_argument(a) && is_position(i)
+            }
             Atom::Cf | Atom::Ad | Atom::Co | Atom::St => true,
             Atom::Ask(n) => 1 <= n,
             Atom::Con(a, c) => is_argument(a) && is_atom_or_none(c),
@@ -152,6 +150,7 @@ impl Atom {
             Atom::Ask(_) => "Ask",
             Atom::Asm(_) => "Asm",
             Atom::Con(..) => "Con",
+            Atom::ConGap(..) => "ConGap",
             Atom::Head(..) => "Head",
             Atom::HGap(..) => "HGap",
             Atom::Body(..) => "Body",
@@ -159,6 +158,7 @@ impl Atom {
             Atom::Der(..) => "Der",
             Atom::Miss(..) => "Miss",
             Atom::Sup(..) => "Sup",
+            Atom::Hit(..) => "Hit",
         }
     }
 }

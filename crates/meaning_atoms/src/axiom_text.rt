@@ -78,20 +78,22 @@ fn push_aba_arguments(text: &mut String, axiom: &AbaAxiom) -> Result<(), Memory>
         ≡ string_bytes text.old ++ flat_map (λ n. 32 ∷ decimal_text n) (aba_arguments axiom.now)) }
 {
     match axiom {
-        AbaAxiom::B1(a) | AbaAxiom::B2(a) | AbaAxiom::B16(a) => write!(text, " {a}")?,
-        AbaAxiom::B3(a, c)
-        | AbaAxiom::B12(a, c)
-        | AbaAxiom::B13(a, c)
-        | AbaAxiom::B14(a, c)
-        | AbaAxiom::B15(a, c) => write!(text, " {a} {c}")?,
+        AbaAxiom::B1(a)
+        | AbaAxiom::B2(a)
+        | AbaAxiom::B3(a)
+        | AbaAxiom::B14(a)
+        | AbaAxiom::B15(a)
+        | AbaAxiom::B16(a) => write!(text, " {a}")?,
+        AbaAxiom::B12(a, c) | AbaAxiom::B13(a, c) => write!(text, " {a} {c}")?,
         AbaAxiom::B4(k) => write!(text, " {}", k.number())?,
         AbaAxiom::B9(k, x) => write!(text, " {} {x}", k.number())?,
         AbaAxiom::B9Con(a, c) => write!(text, " {CONTRARY_PART} {a} {c}")?,
         AbaAxiom::B5(k, a, b)
         | AbaAxiom::B6(k, a, b)
         | AbaAxiom::B8(k, a, b)
-        | AbaAxiom::B11(k, a, b) => write!(text, " {} {a} {b}", k.number())?,
-        AbaAxiom::B7(k, a, i, j) | AbaAxiom::B10(k, a, i, j) => {
+        | AbaAxiom::B11(k, a, b)
+        | AbaAxiom::B19(k, a, b) => write!(text, " {} {a} {b}", k.number())?,
+        AbaAxiom::B7(k, a, i, j) | AbaAxiom::B10(k, a, i, j) | AbaAxiom::B18(k, a, i, j) => {
             write!(text, " {} {a} {i} {j}", k.number())?
         }
         AbaAxiom::B17 { closure, x, rows } => push_loop(text, *closure, *x, rows.as_slice())?,
@@ -220,7 +222,10 @@ fn aba_of_one(name: &[u8], a: u32) -> Option<AbaAxiom>
     match name {
         b"B1" => Some(AbaAxiom::B1(a)),
         b"B2" => Some(AbaAxiom::B2(a)),
+        b"B3" => Some(AbaAxiom::B3(a)),
         b"B4" => never_zero(a),
+        b"B14" => Some(AbaAxiom::B14(a)),
+        b"B15" => Some(AbaAxiom::B15(a)),
         b"B16" => Some(AbaAxiom::B16(a)),
         _ => None,
     }
@@ -240,12 +245,9 @@ fn aba_of_two(name: &[u8], a: u32, b: u32) -> Option<AbaAxiom>
         → result ≡ Some which }
 {
     match name {
-        b"B3" => Some(AbaAxiom::B3(a, b)),
         b"B9" => given_or_headed(a, b),
         b"B12" => Some(AbaAxiom::B12(a, b)),
         b"B13" => Some(AbaAxiom::B13(a, b)),
-        b"B14" => Some(AbaAxiom::B14(a, b)),
-        b"B15" => Some(AbaAxiom::B15(a, b)),
         _ => None,
     }
 }
@@ -292,6 +294,7 @@ fn of_closure(name: &[u8], closure: u32, a: u32, b: u32) -> Option<AbaAxiom>
         b"B6" => Some(AbaAxiom::B6(closure, a, b)),
         b"B8" => Some(AbaAxiom::B8(closure, a, b)),
         b"B11" => Some(AbaAxiom::B11(closure, a, b)),
+        b"B19" => Some(AbaAxiom::B19(closure, a, b)),
         _ => None,
     }
 }
@@ -305,6 +308,7 @@ fn aba_of_four(name: &[u8], closure: u32, a: u32, i: u32, j: u32) -> Option<AbaA
     match name {
         b"B7" => Some(AbaAxiom::B7(closure, a, i, j)),
         b"B10" => Some(AbaAxiom::B10(closure, a, i, j)),
+        b"B18" => Some(AbaAxiom::B18(closure, a, i, j)),
         _ => None,
     }
 }

@@ -66,11 +66,10 @@ fn push_numbers(text: &mut String, atom: &Atom) -> Result<(), Memory>
         | Atom::Con(a, b)
         | Atom::Head(a, b)
         | Atom::Body(a, b) => write!(text, ":{a}:{b}")?,
-        Atom::Gap(a, i, j) | Atom::HGap(a, i, j) | Atom::BGap(a, i, j) => {
-            write!(text, ":{a}:{i}:{j}")?
-        }
+        Atom::Gap(a, i, j) | Atom::ConGap(a, i, j) | Atom::HGap(a, i, j) | Atom::BGap(a, i, j) =>
+            write!(text, ":{a}:{i}:{j}")?,
         Atom::Der(closure, x) => write!(text, ":{}:{x}", closure.number())?,
-        Atom::Miss(closure, x, i) | Atom::Sup(closure, x, i) => {
+        Atom::Miss(closure, x, i) | Atom::Sup(closure, x, i) | Atom::Hit(closure, x, i) => {
             write!(text, ":{}:{x}:{i}", closure.number())?
         }
         Atom::Cf | Atom::Ad | Atom::Co | Atom::St => {}
@@ -230,10 +229,12 @@ fn atom_of_three(name: &[u8], a: u32, i: u32, j: u32) -> Option<Atom>
 {
     match name {
         b"Gap" => Some(Atom::Gap(a, i, j)),
+        b"ConGap" => Some(Atom::ConGap(a, i, j)),
         b"HGap" => Some(Atom::HGap(a, i, j)),
         b"BGap" => Some(Atom::BGap(a, i, j)),
         b"Miss" => missing(a, i, j),
         b"Sup" => supported(a, i, j),
+        b"Hit" => hit(a, i, j),
         _ => None,
     }
 }
@@ -254,4 +255,13 @@ fn supported(closure: u32, x: u32, i: u32) -> Option<Atom>
 {
     let closure = Closure::of_number(closure)?;
     Some(Atom::Sup(closure, x, i))
+}
+
+// An assumption of which some contrary is in the closure of this number.
+fn hit(closure: u32, a: u32, i: u32) -> Option<Atom>
+    ensures named { IfSome result (IsAtomOf (codes "Hit") (closure ∷ a ∷ i ∷ [])) }
+    ensures read { (atom : AnAtom) → IsAtomOf (codes "Hit") (closure ∷ a ∷ i ∷ []) atom → result ≡ Some atom }
+{
+    let closure = Closure::of_number(closure)?;
+    Some(Atom::Hit(closure, a, i))
 }
