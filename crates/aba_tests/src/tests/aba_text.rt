@@ -9,7 +9,7 @@ use std::alloc::Global;
 use std::test::Fail;
 
 /// A rule: its number, its head and its body.
-type Rule<'a> = (u32, u32, &'a [u32]);
+pub(crate) type Rule<'a> = (u32, u32, &'a [u32]);
 
 /// A framework: its number of atoms, its assumptions, pairs of one and a contrary of it, its rules, and the next rule's
 /// number.
