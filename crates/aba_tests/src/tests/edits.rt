@@ -1,7 +1,7 @@
 //! Edits of frameworks with rules: what each one tells and does, that it can be undone, and the last numbers of rules.
 //! The order of their refusals is a row of `argue_rows`.
 
-use crate::tests::aba_text::{Rule, Shown, framework_of, is_shown};
+use crate::tests::aba_text::{Shown, framework_of, is_shown};
 use aba_notions::{AbaPlain, RuleLists};
 use edit_rules::{
     Edit, EditFault, aba_edits_keep_form, aba_effects_determine, apply_aba, numbers_are_given_once,
@@ -24,13 +24,8 @@ pub(crate) enum Change<'a> {
     RuleDrop(u32),
 }
 
-<<<<<<< HEAD
 /// What an effect tells: the rule's number, the contraries that were there, and the head and the body of the rule that
 /// went; or why the edit is refused.
-=======
-/// What an effect tells: the rule's number, the contraries that the assumption had, and the head and the body of the rule
-/// that went; or why the edit is refused.
->>>>>>> 03777ddfd98fe5e01121923ebbd4a7055fc5bc72
 type Told<'a> = Result<(u32, &'a [u32], u32, &'a [u32]), EditFault>;
 
 /// What is told of an edit that gives no number and takes nothing away.
@@ -90,66 +85,37 @@ fn follow(
 /// Two assumptions, each of which derives the contrary of the other.
 const RIVALS: &str = "p aba 4\na 1\na 2\nc 1 3\nc 2 4\nr 3 2\nr 4 1\n";
 
-<<<<<<< HEAD
 const RIVALS_SHOWN: Shown<'static> = (4, &[1, 2], &[(1, 3), (2, 4)], &[(1, 3, &[2]), (2, 4, &[1])], 3);
-=======
-const RIVALS_SHOWN: Shown<'static> = (4, &[(1, 3), (2, 4)], RIVALS_RULES, 3);
-
-const RIVALS_RULES: &[Rule<'static>] = &[(1, 3, &[2]), (2, 4, &[1])];
-
-/// The rivals, where one has two contraries more.
-const THREE_OF_ONE: Shown<'static> = (4, &[(1, 1), (1, 3), (1, 4), (2, 4)], RIVALS_RULES, 3);
->>>>>>> 03777ddfd98fe5e01121923ebbd4a7055fc5bc72
 
 /// One edit after the other, with what it tells and the framework behind it.
 const CHANGES: &[Row] = &[
     (
         Change::ConSet(1, 4),
         Ok((0, &[3], 0, &[])),
-<<<<<<< HEAD
         (4, &[1, 2], &[(1, 4), (2, 4)], &[(1, 3, &[2]), (2, 4, &[1])], 3),
-=======
-        (4, &[(1, 4), (2, 4)], &[(1, 3, &[2]), (2, 4, &[1])], 3),
->>>>>>> 03777ddfd98fe5e01121923ebbd4a7055fc5bc72
     ),
     (
         Change::ConSet(1, 4),
         Ok((0, &[4], 0, &[])),
-<<<<<<< HEAD
         (4, &[1, 2], &[(1, 4), (2, 4)], &[(1, 3, &[2]), (2, 4, &[1])], 3),
-=======
-        (4, &[(1, 4), (2, 4)], &[(1, 3, &[2]), (2, 4, &[1])], 3),
->>>>>>> 03777ddfd98fe5e01121923ebbd4a7055fc5bc72
     ),
     (Change::ConSet(1, 3), Ok((0, &[4], 0, &[])), RIVALS_SHOWN),
     (
         Change::ConSet(2, 0),
         Ok((0, &[4], 0, &[])),
-<<<<<<< HEAD
         (4, &[1, 2], &[(1, 3)], &[(1, 3, &[2]), (2, 4, &[1])], 3),
-=======
-        (4, &[(1, 3)], &[(1, 3, &[2]), (2, 4, &[1])], 3),
->>>>>>> 03777ddfd98fe5e01121923ebbd4a7055fc5bc72
     ),
     (Change::ConSet(2, 4), NOTHING, RIVALS_SHOWN),
     (
         Change::AsmDrop(1),
         Ok((0, &[3], 0, &[])),
-<<<<<<< HEAD
         (4, &[2], &[(2, 4)], &[(1, 3, &[2]), (2, 4, &[1])], 3),
-=======
-        (4, &[(2, 4)], &[(1, 3, &[2]), (2, 4, &[1])], 3),
->>>>>>> 03777ddfd98fe5e01121923ebbd4a7055fc5bc72
     ),
     (Change::AsmAdd(1, 3), NOTHING, RIVALS_SHOWN),
     (
         Change::RuleDrop(1),
         Ok((0, &[], 3, &[2])),
-<<<<<<< HEAD
         (4, &[1, 2], &[(1, 3), (2, 4)], &[(2, 4, &[1])], 3),
-=======
-        (4, &[(1, 3), (2, 4)], &[(2, 4, &[1])], 3),
->>>>>>> 03777ddfd98fe5e01121923ebbd4a7055fc5bc72
     ),
     (
         Change::RuleDrop(1),
@@ -159,65 +125,37 @@ const CHANGES: &[Row] = &[
     (
         Change::RuleAdd(3, &[2]),
         Ok((3, &[], 0, &[])),
-<<<<<<< HEAD
         (4, &[1, 2], &[(1, 3), (2, 4)], &[(2, 4, &[1]), (3, 3, &[2])], 4),
-=======
-        (4, &[(1, 3), (2, 4)], &[(2, 4, &[1]), (3, 3, &[2])], 4),
->>>>>>> 03777ddfd98fe5e01121923ebbd4a7055fc5bc72
     ),
     (
         Change::RuleDrop(3),
         Ok((0, &[], 3, &[2])),
-<<<<<<< HEAD
         (4, &[1, 2], &[(1, 3), (2, 4)], &[(2, 4, &[1])], 4),
-=======
-        (4, &[(1, 3), (2, 4)], &[(2, 4, &[1])], 4),
->>>>>>> 03777ddfd98fe5e01121923ebbd4a7055fc5bc72
     ),
     (
         Change::RuleAdd(4, &[3, 1, 3, 2, 1]),
         Ok((4, &[], 0, &[])),
-<<<<<<< HEAD
         (4, &[1, 2], &[(1, 3), (2, 4)], &[(2, 4, &[1]), (4, 4, &[1, 2, 3])], 5),
-=======
-        (4, &[(1, 3), (2, 4)], &[(2, 4, &[1]), (4, 4, &[1, 2, 3])], 5),
->>>>>>> 03777ddfd98fe5e01121923ebbd4a7055fc5bc72
     ),
     (
         Change::RuleDrop(4),
         Ok((0, &[], 4, &[1, 2, 3])),
-<<<<<<< HEAD
         (4, &[1, 2], &[(1, 3), (2, 4)], &[(2, 4, &[1])], 5),
-=======
-        (4, &[(1, 3), (2, 4)], &[(2, 4, &[1])], 5),
->>>>>>> 03777ddfd98fe5e01121923ebbd4a7055fc5bc72
     ),
     (
         Change::RuleDrop(2),
         Ok((0, &[], 4, &[1])),
-<<<<<<< HEAD
         (4, &[1, 2], &[(1, 3), (2, 4)], &[], 5),
-=======
-        (4, &[(1, 3), (2, 4)], &[], 5),
->>>>>>> 03777ddfd98fe5e01121923ebbd4a7055fc5bc72
     ),
     (
         Change::AsmDrop(2),
         Ok((0, &[4], 0, &[])),
-<<<<<<< HEAD
         (4, &[1], &[(1, 3)], &[], 5),
-=======
-        (4, &[(1, 3)], &[], 5),
->>>>>>> 03777ddfd98fe5e01121923ebbd4a7055fc5bc72
     ),
     (
         Change::RuleAdd(2, &[]),
         Ok((5, &[], 0, &[])),
-<<<<<<< HEAD
         (4, &[1], &[(1, 3)], &[(5, 2, &[])], 6),
-=======
-        (4, &[(1, 3)], &[(5, 2, &[])], 6),
->>>>>>> 03777ddfd98fe5e01121923ebbd4a7055fc5bc72
     ),
     (
         Change::AsmAdd(2, 2),
@@ -227,11 +165,7 @@ const CHANGES: &[Row] = &[
     (
         Change::RuleDrop(5),
         Ok((0, &[], 2, &[])),
-<<<<<<< HEAD
         (4, &[1], &[(1, 3)], &[], 6),
-=======
-        (4, &[(1, 3)], &[], 6),
->>>>>>> 03777ddfd98fe5e01121923ebbd4a7055fc5bc72
     ),
     (
         Change::AsmAdd(4, 1),
@@ -245,7 +179,6 @@ const CHANGES: &[Row] = &[
     ),
 ];
 
-<<<<<<< HEAD
 /// Contraries of one assumption that come and go.
 const CONTRARIES: &[Row] = &[
     (
@@ -299,78 +232,6 @@ const CONTRARIES: &[Row] = &[
 const COURSES: &[(&str, &[Row])] = &[
     (RIVALS, CHANGES),
     ("p aba 4\na 1\na 4\nc 1 3\nc 4 1\n", CONTRARIES),
-=======
-/// One edit of contraries after the other, with what it tells and the framework behind it.
-const CONTRARIES: &[Row] = &[
-    (
-        Change::ConAdd(1, 4),
-        NOTHING,
-        (4, &[(1, 3), (1, 4), (2, 4)], RIVALS_RULES, 3),
-    ),
-    (Change::ConAdd(1, 1), NOTHING, THREE_OF_ONE),
-    (
-        Change::ConAdd(1, 3),
-        Err(EditFault::ContraryIsThere),
-        THREE_OF_ONE,
-    ),
-    (
-        Change::ConDrop(1, 2),
-        Err(EditFault::NoSuchContrary),
-        THREE_OF_ONE,
-    ),
-    (
-        Change::ConAdd(1, 0),
-        Err(EditFault::OutOfRange(0)),
-        THREE_OF_ONE,
-    ),
-    (
-        Change::ConDrop(1, 0),
-        Err(EditFault::OutOfRange(0)),
-        THREE_OF_ONE,
-    ),
-    (
-        Change::ConAdd(5, 0),
-        Err(EditFault::OutOfRange(5)),
-        THREE_OF_ONE,
-    ),
-    (
-        Change::ConDrop(3, 4),
-        Err(EditFault::UnknownAssumption(3)),
-        THREE_OF_ONE,
-    ),
-    (
-        Change::ConDrop(1, 3),
-        NOTHING,
-        (4, &[(1, 1), (1, 4), (2, 4)], RIVALS_RULES, 3),
-    ),
-    (Change::ConAdd(1, 3), NOTHING, THREE_OF_ONE),
-    (
-        Change::ConSet(1, 3),
-        Ok((0, &[1, 3, 4], 0, &[])),
-        RIVALS_SHOWN,
-    ),
-    (
-        Change::ConDrop(1, 3),
-        NOTHING,
-        (4, &[(2, 4)], RIVALS_RULES, 3),
-    ),
-    (
-        Change::ConSet(1, 0),
-        NOTHING,
-        (4, &[(2, 4)], RIVALS_RULES, 3),
-    ),
-    (
-        Change::ConAdd(2, 1),
-        NOTHING,
-        (4, &[(2, 1), (2, 4)], RIVALS_RULES, 3),
-    ),
-    (
-        Change::AsmDrop(2),
-        Ok((0, &[1, 4], 0, &[])),
-        (4, &[], RIVALS_RULES, 3),
-    ),
-    (Change::AsmAdd(2, 0), NOTHING, (4, &[], RIVALS_RULES, 3)),
->>>>>>> 03777ddfd98fe5e01121923ebbd4a7055fc5bc72
 ];
 
 /// One assumption and no rule; the next rule gets the last number.
@@ -434,15 +295,6 @@ fn changes(rt: HostRuntime) -> Result<(), Fail> {
         follow(&rt, rt.alloc(), &mut framework, rows)?;
     }
     Ok(())
-}
-
-#[test]
-fn contraries(rt: HostRuntime) -> Result<(), Fail> {
-    let Some(mut framework) = framework_of(rt.alloc(), RIVALS) else {
-        assert!(rt; false, "not read");
-        return Ok(());
-    };
-    follow(&rt, rt.alloc(), &mut framework, CONTRARIES)
 }
 
 /// The atoms 1 and 2 without an assumption or a rule, where the next rule gets the last number.
