@@ -331,7 +331,8 @@ module _ (f : Aba) (form : IsNumberedAba f) (a c : ℕ) where
 
   module _ (start : ℕ) (place : IsPlaceBefore (HasContrary f a) c start) where
     one_place_is : (k : ℕ) → IsPlaceBefore (HasContrary f a) c k → k ≡ start
-    one_place_is k other = one_place (HasContrary f a) (contrary_low f form a) (contrary_under f form a) c start k place other
+    one_place_is k other =
+        one_place (HasContrary f a) (contrary_low f form a) (contrary_under f form a) c start k place other
 
     same_place : (k : ℕ) → k ≡ start → IsPlaceBefore (HasContrary f a) c k
     same_place k e = subst (IsPlaceBefore (HasContrary f a) c) (sym e) place
