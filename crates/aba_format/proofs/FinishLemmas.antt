@@ -1,12 +1,11 @@
 -- From what the lines say to the framework.
-use Rattle.std.proofs.Common.{◌≡◌, ℕ, zero, suc, ◌+◌, ◌<◌, ◌≤◌, List, [], ◌∷◌, ◌++◌, length, map, take, get_or}
-use Rattle.std.proofs.Common.{refl, sym, ap, subst, ◌∙◌, ◌⊎◌, inl, inr, ⊎_elim, arith}
+use Rattle.std.proofs.Common.{◌≡◌, ℕ, suc, ◌+◌, ◌<◌, ◌≤◌, List, [], ◌∷◌, length, map, get_or}
+use Rattle.std.proofs.Common.{refl, sym, ap, subst, ◌∙◌, arith}
 use Rattle.std.specs.Prelude.{Contains, ◌↔◌, Result, Ok, Err, IfOk}
 use Rattle.std.specs.List.{range_with_len}
 use Rattle.std.specs.List.Sorted.{IsStrictlyIncreasing}
-use Rattle.std.proofs.lemmas.Bool.{cases_eq}
 use Rattle.std.specs.List.{AllZip}
-use Rattle.std.proofs.lemmas.List.{take_all, length-map, get_or-map}
+use Rattle.std.proofs.lemmas.List.{length-map, get_or-map}
 use Rattle.std.proofs.lemmas.List.Elements.{Contains-get_or}
 use Rattle.std.proofs.lemmas.List.FromFn.{length-range_with_len, get_or-range_with_len}
 use Rattle.lists.proofs.Membership.{Contains-tail}
@@ -21,26 +20,11 @@ use Rattle.aba_notions.specs.Storage.{AreParts, AreRulesOf, no_rule}
 use Rattle.aba_format.specs.AbaText.{Said, says_assumption, says_contrary, says_rule, atoms_of, rules_said}
 use Rattle.aba_format.specs.AbaText.{IsRuleSaid, IsFrameworkOf, ReadsAs}
 use Rattle.aba_format.specs.Reading.{AreRulesIn, AreWhole}
-use Rattle.aba_format.specs.Finishing.{AreFrameworkParts, IsPairedBy, IsFrameworkBy}
+use Rattle.aba_format.specs.Finishing.{AreFrameworkParts, IsFrameworkBy}
 use Rattle.aba_format.specs.declared.said.LineParts.{LineParts}
-use Rattle.aba_format.proofs.SaysLemmas.{atoms_within, said_by_line, listed_rule}
-use Rattle.lists.proofs.Images.{image_there, image_from}
+use Rattle.aba_format.proofs.SaysLemmas.{atoms_within, contrary_listed, listed_contrary, listed_rule, said_by_line}
+use Rattle.lists.proofs.Images.{image_from}
 use Rattle.lists.proofs.Ranges.{numbers_rise}
-
-pub paired_all : (assumptions contrary : List ℕ) (pairs : List (ℕ × ℕ)) (n : ℕ) → length assumptions ≤ n
-    → pairs ≡ map (λ a. (a, get_or contrary a 0)) (take n assumptions) → IsPairedBy assumptions contrary pairs
-paired_all assumptions contrary pairs n end e a c =
-    let f : ℕ → ℕ × ℕ = λ x. (x, get_or contrary x 0) in
-    let all : pairs ≡ map f assumptions = e ∙ ap (map f) (take_all n assumptions end) in (
-      λ there.
-          let from = image_from f assumptions (a, c) (subst (λ ps. Contains ps (a, c)) all there) in
-          let first : from.0 ≡ a = ap (λ p. p.0) from.2 in (
-            subst (Contains assumptions) first from.1,
-            sym (ap (λ p. p.1) from.2) ∙ ap (λ x. get_or contrary x 0) first,
-          ),
-      λ h. subst (λ ps. Contains ps (a, c)) (sym all)
-          (subst (λ m. Contains (map f assumptions) (a, m)) (sym h.1) (image_there f assumptions a h.0)),
-    )
 
 -- ---- the parts are those of a framework
 
@@ -67,12 +51,11 @@ framework_parts count lines parts small h =
       few = small;
       few_rules = omega arith;
       assumptions = λ a c. atom (says_assumption a) (held.assumptions a c) a (0, omega arith, refl);
-      wide = held.wide.contrary;
-      contraries = λ a. ⊎_elim (λ (none : get_or parts.contrary.items a 0 ≡ 0). omega arith)
-          (λ given.
-          let c = get_or parts.contrary.items a 0 in
-          let bound = (atom (says_contrary a c) (held.contrary a given) c (1, omega arith, refl)).high in omega arith)
-          (cases_eq (get_or parts.contrary.items a 0) 0);
+      contraries = λ a c there.
+          let said = listed_contrary all (a, c) (subst (λ ps. Contains ps (a, c)) held.contraries there) in (
+            held.assumptions_all a (h.of_assumptions a c said),
+            atom (says_contrary a c) said c (1, omega arith, refl),
+          );
       heads = λ x c.
           let rule = headed x c in atom (says_rule x rule.0) rule.1 x (0, omega arith, refl);
       bodies = λ k y c.
@@ -96,27 +79,20 @@ number_in n k c =
     let here = get_or-range_with_len 1 n c.0 k lt in
     (omega (arith, here, c.2), omega (arith, here, c.2))
 
-pub made_parts : (count : ℕ) (parts : LineParts) (assumptions : List ℕ) (pairs : List (ℕ × ℕ)) (rules : RuleLists)
-    (next : ℕ)
+pub made_parts : (count : ℕ) (parts : LineParts) (assumptions : List ℕ) (rules : RuleLists) (next : ℕ)
     → AreFrameworkParts count parts → ((x : ℕ) → Contains assumptions x ↔ Contains parts.assumptions.items x)
-    → IsPairedBy assumptions parts.contrary.items pairs
     → rules.numbers.items ≡ range_with_len 1 (length parts.heads.items) → rules.heads.items ≡ parts.heads.items
     → rules.bodies.items ≡ parts.bodies.items → next ≡ length parts.heads.items + 1
-    → AreParts count assumptions pairs rules next
-made_parts count parts assumptions pairs rules next h same paired numbers heads bodies next_is =
+    → AreParts count assumptions parts.contraries.items rules next
+made_parts count parts assumptions rules next h same numbers heads bodies next_is =
     let few = h.few_rules in
     record {
       atoms_small = h.few;
       next_low = omega arith;
       next_small = omega arith;
       assumptions_are = λ a c. h.assumptions a ((same a).0 c);
-      contraries_are = record {
-        of_assumptions = λ a c there.
-            let is = (paired a c).0 there in
-            (is.0, subst (λ n. n ≤ count) (sym is.1) (h.contraries a));
-        some = λ a c. (get_or parts.contrary.items a 0, (paired a (get_or parts.contrary.items a 0)).1 (c, refl));
-        one = λ a c d there there'. ((paired a c).0 there).1 ∙ sym ((paired a d).0 there').1;
-      };
+      contraries_are = λ a c there.
+          let is = h.contraries a c there in ((same a).1 is.0, is.1);
       rules_are = record {
         long = ap length numbers ∙ length-range_with_len 1 (length parts.heads.items) ∙ sym (ap length heads);
         heads_are = λ x c. h.heads x (subst (λ hs. Contains hs x) heads c);
@@ -132,33 +108,29 @@ made_parts count parts assumptions pairs rules next h same paired numbers heads 
     }
 
 pub made_framework : {E : Type 0} (r : Result Aba E) (count : ℕ) (parts : LineParts) (assumptions : List ℕ)
-    (pairs : List (ℕ × ℕ)) (rules : RuleLists) (next : ℕ)
+    (rules : RuleLists) (next : ℕ)
     → ((x : ℕ) → Contains assumptions x ↔ Contains parts.assumptions.items x)
-    → IsPairedBy assumptions parts.contrary.items pairs
     → rules.numbers.items ≡ range_with_len 1 (length parts.heads.items) → rules.heads.items ≡ parts.heads.items
     → rules.bodies.items ≡ parts.bodies.items → next ≡ length parts.heads.items + 1
     → IfOk r (λ f. f.atoms ≡ count) → IfOk r (λ f. f.assumptions ≡ assumptions)
-    → IfOk r (λ f. (p : ℕ × ℕ) → Contains f.contraries p ↔ Contains pairs p)
+    → IfOk r (λ f. (p : ℕ × ℕ) → Contains f.contraries p ↔ Contains parts.contraries.items p)
     → IfOk r (λ f. AreRulesOf rules.numbers.items rules.heads.items rules.bodies.items f.rules)
     → IfOk r (λ f. f.next ≡ next) → IfOk r IsNumberedAba → IfOk r (IsFrameworkBy count parts)
-made_framework (Ok f) count parts assumptions pairs rules next same paired numbers heads bodies next_is a b c d e g =
+made_framework (Ok f) count parts assumptions rules next same numbers heads bodies next_is a b c d e g =
     record {
       atoms_are = a;
       assumptions_are = λ x. (
         λ h. (same x).0 (subst (λ xs. Contains xs x) b h),
         λ h. subst (λ xs. Contains xs x) (sym b) ((same x).1 h),
       );
-      contraries_are = λ x y. (
-        λ h. let is = (paired x y).0 ((c (x, y)).0 h) in ((same x).0 is.0, is.1),
-        λ h. (c (x, y)).1 ((paired x y).1 ((same x).1 h.0, h.1)),
-      );
+      contraries_are = c;
       rules_are = subst (λ ns. AreRulesOf ns parts.heads.items parts.bodies.items f.rules) numbers
           (subst (λ hs. AreRulesOf rules.numbers.items hs parts.bodies.items f.rules) heads
           (subst (λ bs. AreRulesOf rules.numbers.items rules.heads.items bs f.rules) bodies d));
       next_is = e ∙ next_is;
       form = g;
     }
-made_framework (Err x) count parts assumptions pairs rules next same paired numbers heads bodies next_is a b c d e g = g
+made_framework (Err x) count parts assumptions rules next same numbers heads bodies next_is a b c d e g = g
 
 -- ---- the framework is that of the text
 
@@ -207,29 +179,10 @@ framework_said count lines parts f h is =
         λ c. (is.assumptions_are x).1 (held.assumptions_all x c),
       );
       contraries_are = λ a c. (
-        λ there.
-            let pair = (is.contraries_are a c).0 there in
-            ⊎_elim (λ (none : get_or parts.contrary.items a 0 ≡ 0). inr (
-              pair.1 ∙ none,
-              held.assumptions a pair.0,
-              λ d given.
-                  let same = held.contraries_all a d given in
-                  let low = held.contraries_low a d given in
-                  absurd (omega arith),
-            ))
-            (λ some. inl (subst (λ n. Contains all (says_contrary a n)) (sym pair.1) (held.contrary a some)))
-            (cases_eq (get_or parts.contrary.items a 0) 0),
-        λ said. (is.contraries_are a c).1 (⊎_elim
-            (λ (given : Contains all (says_contrary a c)). (
-              held.assumptions_all a (h.of_assumptions a c given),
-              sym (held.contraries_all a c given),
-            ))
-            (λ none. (
-              held.assumptions_all a none.1,
-              none.0 ∙ ⊎_elim (λ (z : get_or parts.contrary.items a 0 ≡ 0). sym z)
-                  (λ some. absurd (none.2 (get_or parts.contrary.items a 0) (held.contrary a some)))
-                  (cases_eq (get_or parts.contrary.items a 0) 0),
-            )) said),
+        λ there. listed_contrary all (a, c)
+            (subst (λ ps. Contains ps (a, c)) held.contraries ((is.contraries_are (a, c)).0 there)),
+        λ said. (is.contraries_are (a, c)).1
+            (subst (λ ps. Contains ps (a, c)) (sym held.contraries) (contrary_listed all a c said)),
       );
       rules_are = rules_zip (rules_said all) parts.heads.items parts.bodies.items f.rules held.rules is.rules_are;
       solid = record {

@@ -1,17 +1,17 @@
 -- Which causes stand on the fields of a line.
-use Rattle.std.proofs.Common.{◌≡◌, ℕ, zero, suc, ◌+◌, ◌<◌, ◌≤◌, List, [], ◌∷◌, ◌++◌, length, get_or, refl, sym, ap, subst, ◌∙◌, ◌⊎◌, inl, inr, ⊎_elim, arith}
-use Rattle.std.specs.Prelude.{Contains, codes, All, Option, Some, None}
+use Rattle.std.proofs.Common.{◌≡◌, ℕ, zero, suc, ◌≤◌, List, [], ◌∷◌, get_or, refl, sym, ap, subst, ◌⊎◌, inl, inr, arith}
+use Rattle.std.specs.Prelude.{Contains, codes, All, Option, Some}
 use Rattle.std.specs.List.{AllZip}
 use Rattle.std.proofs.lemmas.Bool.{cases_lt}
 use Rattle.std.proofs.lemmas.List.Elements.{All-nil, All-cons, All-head, All-tail}
 use Rattle.num_text.specs.Number.{IsNumber}
 use Rattle.num_text.specs.Numerals.{IsReadNumber}
 use Rattle.af_format.specs.declared.fault.LineCause.{LineCause}
-use Rattle.af_format.specs.declared.fault.LineCause.TheVariants.{NoHeader, WrongKind, BadHeader, SecondHeader, BadLine, BadNumber, OutOfRange, TooManyLines, NotFlat, SecondContrary, ContraryOfNonAssumption}
+use Rattle.af_format.specs.declared.fault.LineCause.TheVariants.{NoHeader, WrongKind, BadHeader, SecondHeader, BadLine, BadNumber, OutOfRange, TooManyLines, NotFlat, ContraryOfNonAssumption}
 use Rattle.af_format.specs.Causes.{rank, IsFirstCause}
 use Rattle.af_format.specs.Headers.{BeginWithP}
 use Rattle.af_format.specs.Faults.{HaveNoNumber, HaveOutsider}
-use Rattle.af_format.proofs.LineCauses.{IsNumber-same, none_read}
+use Rattle.af_format.proofs.LineCauses.{none_read}
 use Rattle.semantics.specs.AbaFrameworks.{IsAtom}
 use Rattle.aba_format.specs.AbaText.{SpellsAtom}
 use Rattle.aba_format.specs.declared.stop.LineStop.{LineStop}
@@ -32,7 +32,6 @@ no_lower count fields n small p form number BadNumber stands = number stands
 no_lower count fields n small p form number OutOfRange stands = small
 no_lower count fields n small p form number TooManyLines stands = absurd stands
 no_lower count fields n small p form number NotFlat stands = absurd stands
-no_lower count fields n small p form number SecondContrary stands = absurd stands
 no_lower count fields n small p form number ContraryOfNonAssumption stands = absurd stands
 
 -- some field behind the first is no number

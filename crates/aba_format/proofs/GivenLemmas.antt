@@ -1,21 +1,19 @@
 -- The atoms that were given contraries, with the lines that first did so.
-use Rattle.std.proofs.Common.{◌≡◌, ◌≢◌, ℕ, zero, suc, ◌+◌, ◌<◌, ◌≤◌, List, [], ◌∷◌, ◌++◌, length, get_or, refl}
-use Rattle.std.proofs.Common.{sym, ap, subst, ◌∙◌, ◌⊎◌, inl, inr, ⊎_elim, Bool, true, false, arith}
+use Rattle.std.proofs.Common.{◌≡◌, ℕ, ◌<◌, ◌≤◌, List, [], ◌∷◌, ◌++◌, length, get_or, refl}
+use Rattle.std.proofs.Common.{sym, ap, subst, ◌∙◌, inl, inr, ⊎_elim, Bool, true, arith}
 use Rattle.std.specs.Prelude.{Contains}
-use Rattle.std.specs.List.{AllPairs, AllZip}
-use Rattle.std.proofs.lemmas.Bool.{cases_eq, cases_lt}
+use Rattle.std.specs.List.{AllZip}
 use Rattle.std.proofs.lemmas.List.{length-append, get_or_append_left, get_or_default}
 use Rattle.std.proofs.lemmas.List.Elements.{Contains-push_cases, Contains-append_left, Contains-get_or}
 use Rattle.std.proofs.lemmas.List.Quantifiers.{all_pairs_push}
 use Rattle.std.proofs.Math.Seq.{get_or-append_seam}
 use Rattle.lists.proofs.Membership.{Contains-pushed}
 use Rattle.num_text.specs.Cuts.{LineText}
-use Rattle.semantics.specs.AbaFrameworks.{IsAtom}
 use Rattle.aba_format.specs.AbaText.{Said, says_assumption, says_contrary, says_rule, SaysLine}
 use Rattle.aba_format.specs.Reading.{is_marked, IsSaidIn, GivesAt, AreGivenBy, NumbersRise, AreAllMarked, Adds}
 use Rattle.aba_format.specs.declared.said.LineParts.{LineParts}
-use Rattle.aba_format.proofs.SaysLemmas.{SaysLine-same, said_by_line, atoms_within}
-use Rattle.aba_format.proofs.TakenLemmas.{kind, other_kind, first_atom, second_atom}
+use Rattle.aba_format.proofs.SaysLemmas.{SaysLine-same, said_by_line}
+use Rattle.aba_format.proofs.TakenLemmas.{kind, other_kind, first_atom}
 
 -- ---- marks
 
@@ -69,18 +67,18 @@ given_kept count before here given s says ne h = record {
 
 -- where it gives one again
 given_again : (count : ℕ) (before : List LineText) (here : LineText) (rest : List LineText) (given : List (ℕ × ℕ))
-    (all : List Said) (x y : ℕ) → NumbersRise (before ++ here ∷ rest)
+    (all : List Said) (x y w : ℕ) → NumbersRise (before ++ here ∷ rest)
     → AllZip (λ line s. SaysLine count line.text s) before all → SaysLine count here.text (says_contrary x y)
-    → Contains all (says_contrary x y) → AreGivenBy count before given → AreGivenBy count (before ++ here ∷ []) given
-given_again count before here rest given all x y rise zip says c h = record {
+    → Contains all (says_contrary x w) → AreGivenBy count before given → AreGivenBy count (before ++ here ∷ []) given
+given_again count before here rest given all x y w rise zip says c h = record {
   by_line = λ z line d. given_in count before here z line (h.by_line z line d);
-  all = λ l z w d gives. ⊎_elim (λ there. h.all l z w there gives)
+  all = λ l z v d gives. ⊎_elim (λ there. h.all l z v there gives)
       (λ (e : here ≡ l).
-      let same : says_contrary x y ≡ says_contrary z w = SaysLine-same count l.text (says_contrary x y)
-      (says_contrary z w)
+      let same : says_contrary x y ≡ says_contrary z v = SaysLine-same count l.text (says_contrary x y)
+      (says_contrary z v)
       (subst (λ (m : LineText). SaysLine count m.text (says_contrary x y)) e says) gives in
-      let earlier = said_by_line count before all zip (says_contrary x y) c in
-      let first = h.all earlier.0 x y earlier.1 earlier.2 in
+      let earlier = said_by_line count before all zip (says_contrary x w) c in
+      let first = h.all earlier.0 x w earlier.1 earlier.2 in
       let less = earlier_number before here rest earlier.0 rise earlier.1 in
       let number : here.number ≡ l.number = ap (λ (m : LineText). m.number) e in
       (first.0, subst (λ n. Contains given (n, first.0)) (ap first_atom same) first.1, omega (arith, first.2)))
@@ -135,15 +133,12 @@ given_next count before here rest all (says_assumption x) old new rise zip says 
     (sym (⊎_elim (λ (same : (is_marked old.assumed.items x ≡ true) × (new ≡ old)). ap (λ p. p.given.items) same.1)
     (λ fresh. fresh.given) a.added))
     (given_kept count before here old.given.items (says_assumption x) says (λ e. omega arith) h)
-given_next count before here rest all (says_contrary x y) old new rise zip says held a h = elim a [
-  | inl same ↦
-      let atom = atoms_within count here.text (says_contrary x y) says y (1, omega arith, refl) in
-      let low = atom.low in
-      let given = held.contrary x (λ none. let is = same.0 in absurd (omega arith)) in
-      subst (AreGivenBy count (before ++ here ∷ [])) (sym (ap (λ p. p.given.items) same.1))
-      (given_again count before here rest old.given.items all x y rise zip says
-      (subst (λ n. Contains all (says_contrary x n)) same.0 given) h)
-  | inr fresh ↦ subst (AreGivenBy count (before ++ here ∷ [])) (sym fresh.given)
+given_next count before here rest all (says_contrary x y) old new rise zip says held a h = elim a.marked [
+  | inl again ↦
+      let given = held.opposed.marked x again.earlier in
+      subst (AreGivenBy count (before ++ here ∷ [])) (sym again.given)
+      (given_again count before here rest old.given.items all x y given.0 rise zip says given.1 h)
+  | inr first ↦ subst (AreGivenBy count (before ++ here ∷ [])) (sym first.given)
       (given_first count before here rest old.given.items x y rise says h)
 ]
 given_next count before here rest all (says_rule head body) old new rise zip says held a h =

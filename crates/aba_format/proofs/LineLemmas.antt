@@ -1,13 +1,13 @@
 -- The lines that were taken in, and those that are left.
-use Rattle.std.proofs.Common.{◌≡◌, ℕ, zero, suc, ◌+◌, ◌<◌, ◌≤◌, List, [], ◌∷◌, ◌++◌, length, get_or, refl, sym, ap}
-use Rattle.std.proofs.Common.{subst, ◌∙◌, ◌⊎◌, inl, inr, ⊎_elim, Bool, true, false, arith}
+use Rattle.std.proofs.Common.{◌≡◌, ℕ, suc, ◌<◌, List, [], ◌∷◌, ◌++◌, length, get_or, refl, sym, ap}
+use Rattle.std.proofs.Common.{subst, ◌∙◌, inl, inr, true, false, arith}
 use Rattle.std.specs.Prelude.{Contains}
 use Rattle.std.specs.List.{AllPairs}
 use Rattle.std.proofs.lemmas.Bool.{cases_lt}
 use Rattle.std.proofs.lemmas.List.{append_assoc, append-nil, get_or_default}
 use Rattle.std.proofs.lemmas.Slice.Zip.{all_zipped_more}
 use Rattle.num_text.specs.Cuts.{LineText}
-use Rattle.num_text.specs.Lines.{kept, kept_lines}
+use Rattle.num_text.specs.Lines.{kept}
 use Rattle.num_text.proofs.KeptLines.{kept_lines-rise}
 use Rattle.af_format.specs.declared.fault.LineCause.{LineCause}
 use Rattle.af_format.specs.declared.fault.LineCause.TheVariants.{ContraryOfNonAssumption}
@@ -15,7 +15,7 @@ use Rattle.af_format.specs.declared.fault.ReadFault.{ReadFault}
 use Rattle.af_format.specs.declared.fault.ReadFault.TheVariants.{Line, Memory}
 use Rattle.af_format.specs.Faults.{IfLine}
 use Rattle.af_format.specs.Headers.{aba_word, BeginWith}
-use Rattle.aba_format.specs.AbaText.{Said, says_assumption, says_contrary, SaysLine, AreLines, AreOfAssumptions}
+use Rattle.aba_format.specs.AbaText.{Said, says_contrary, SaysLine, AreLines}
 use Rattle.aba_format.specs.Reading.{
   is_marked,
   AreEmpty,
@@ -32,7 +32,7 @@ use Rattle.aba_format.specs.Reading.{
   AreAllMarked,
 }
 use Rattle.aba_format.specs.declared.said.LineParts.{LineParts}
-use Rattle.aba_format.proofs.SaysLemmas.{atoms_within, says_said, said_by_line}
+use Rattle.aba_format.proofs.SaysLemmas.{atoms_within, said_by_line}
 use Rattle.aba_format.proofs.TakenLemmas.{said_nothing, consistent_nothing, taken, consistent}
 use Rattle.aba_format.proofs.GivenLemmas.{given_nothing, given_next}
 use Rattle.aba_format.proofs.RefusedLemmas.{stopped}

@@ -1,35 +1,30 @@
 -- Which cause is told of a line that is refused, and that none stands on one that is taken in.
-use Rattle.std.proofs.Common.{◌≡◌, ◌≢◌, ℕ, zero, suc, ◌+◌, ◌<◌, ◌≤◌, List, [], ◌∷◌, ◌++◌, length, map, take, drop}
+use Rattle.std.proofs.Common.{◌≡◌, ℕ, ◌+◌, ◌<◌, ◌≤◌, List, [], ◌∷◌, ◌++◌, length, take, drop}
 use Rattle.std.proofs.Common.{get_or, refl, sym, ap, subst, ◌∙◌, ◌⊎◌, inl, inr, ⊎_elim, Bool, true, false, cond}
 use Rattle.std.proofs.Common.{arith}
-use Rattle.std.specs.Prelude.{Contains, codes, count_by}
+use Rattle.std.specs.Prelude.{Contains, count_by}
 use Rattle.std.specs.List.{AllZip}
-use Rattle.std.proofs.lemmas.List.{length-append, length-map, take-append-drop, take_more}
+use Rattle.std.proofs.lemmas.List.{length-map, take-append-drop, take_more}
 use Rattle.std.proofs.lemmas.List.Sums.{count_by_more_yes, sum_by-append}
-use Rattle.std.proofs.lemmas.List.Elements.{Contains-append_left, Contains-push_cases}
-use Rattle.std.proofs.lemmas.Slice.Zip.{all_zipped_more}
+use Rattle.std.proofs.lemmas.List.Elements.{Contains-append_left}
 use Rattle.lists.proofs.Membership.{Contains-pushed}
 use Rattle.num_text.specs.Cuts.{LineText, field_texts}
-use Rattle.num_text.specs.Number.{IsNumber}
 use Rattle.af_format.specs.declared.fault.LineCause.{LineCause}
 use Rattle.af_format.specs.declared.fault.LineCause.TheVariants.{NoHeader, WrongKind, BadHeader, SecondHeader}
 use Rattle.af_format.specs.declared.fault.LineCause.TheVariants.{BadLine, BadNumber, OutOfRange, TooManyLines}
-use Rattle.af_format.specs.declared.fault.LineCause.TheVariants.{NotFlat, SecondContrary, ContraryOfNonAssumption}
+use Rattle.af_format.specs.declared.fault.LineCause.TheVariants.{NotFlat, ContraryOfNonAssumption}
 use Rattle.af_format.specs.Causes.{rank, IsFirstCause}
-use Rattle.af_format.specs.Faults.{HaveNoNumber, HaveOutsider}
 use Rattle.af_format.proofs.LineCauses.{IsNumber-same}
 use Rattle.af_format.proofs.Zips.{AllZip-at}
-use Rattle.semantics.specs.AbaFrameworks.{IsAtom}
 use Rattle.aba_format.specs.AbaText.{Said, says_assumption, says_contrary, says_rule, keyword, atoms_of}
-use Rattle.aba_format.specs.AbaText.{SpellsAtom, SaysLine, rules_said, AreConsistent, AreLines}
-use Rattle.aba_format.specs.Faults.{HaveForm, behind_first, StandsOnFields, is_rule_line, SaySome, AreNotFlat}
-use Rattle.aba_format.specs.Faults.{IsSecondContrary, StandsOnLine}
-use Rattle.aba_format.specs.Reading.{is_marked, IsSaidIn, Refuses, IsRefusedLine, IsStopped}
+use Rattle.aba_format.specs.AbaText.{SpellsAtom, SaysLine, rules_said, AreLines}
+use Rattle.aba_format.specs.Faults.{HaveForm, StandsOnFields, is_contrary_line, is_rule_line, SaySome}
+use Rattle.aba_format.specs.Faults.{AreNotFlat, IsOneTooMany, StandsOnLine}
+use Rattle.aba_format.specs.Reading.{IsSaidIn, Refuses, IsStopped}
 use Rattle.aba_format.specs.declared.said.LineParts.{LineParts}
-use Rattle.aba_format.specs.declared.said.TheConstants.{MAX_RULE_LINES}
 use Rattle.aba_format.proofs.FormCauses.{a_not_p, c_not_p, r_not_p}
-use Rattle.aba_format.proofs.SaysLemmas.{rule_line, rule_lines_count, is_rule, says_said, said_by_line, SaysLine-same}
-use Rattle.aba_format.proofs.TakenLemmas.{kind, other_kind, still}
+use Rattle.aba_format.proofs.SaysLemmas.{contrary_line, contrary_lines_count, is_contrary, is_rule, rule_line}
+use Rattle.aba_format.proofs.SaysLemmas.{rule_lines_count, says_said, said_by_line}
 
 -- ---- the fields
 
@@ -45,7 +40,6 @@ on_line count before here BadNumber stands = (stands, omega arith)
 on_line count before here OutOfRange stands = (stands, omega arith)
 on_line count before here TooManyLines stands = absurd stands
 on_line count before here NotFlat stands = absurd stands
-on_line count before here SecondContrary stands = absurd stands
 on_line count before here ContraryOfNonAssumption stands = absurd stands
 
 -- what stands on the line stands on its fields, or has a high rank
@@ -60,7 +54,6 @@ off_line count before here BadNumber stands = inl stands
 off_line count before here OutOfRange stands = inl stands
 off_line count before here TooManyLines stands = inr (omega arith)
 off_line count before here NotFlat stands = inr (omega arith)
-off_line count before here SecondContrary stands = inr (omega arith)
 off_line count before here ContraryOfNonAssumption stands = absurd stands
 
 -- what is told of the fields is told of the line
@@ -115,7 +108,6 @@ no_field_cause count s texts zip OutOfRange stands =
     ⊎_elim (λ under. absurd (omega arith)) (λ over. absurd (omega arith)) stands.outside
 no_field_cause count s texts zip TooManyLines stands = stands
 no_field_cause count s texts zip NotFlat stands = stands
-no_field_cause count s texts zip SecondContrary stands = stands
 no_field_cause count s texts zip ContraryOfNonAssumption stands = stands
 
 no_cause_on : (count : ℕ) (line : List ℕ) (s : Said) → SaysLine count line s → (cause : LineCause)
@@ -125,23 +117,22 @@ no_cause_on count line s says cause stands = no_field_cause count s says.texts s
 
 -- what can stand on such a line has a rank of at least n
 line_rank : (count : ℕ) (before : List LineText) (here : LineText) (s : Said) (n : ℕ) → SaysLine count here.text s
-    → n ≤ 10 → (StandsOnLine count before here TooManyLines → n ≤ 8) → (AreNotFlat count (before ++ here ∷ []) → n ≤ 9)
+    → (IsOneTooMany before here → n ≤ 8) → (AreNotFlat count (before ++ here ∷ []) → n ≤ 9)
     → (cause : LineCause) → StandsOnLine count before here cause → n ≤ rank cause
-line_rank count before here s n says top many flat NoHeader stands = absurd stands
-line_rank count before here s n says top many flat WrongKind stands = absurd stands
-line_rank count before here s n says top many flat BadHeader stands = absurd stands
-line_rank count before here s n says top many flat SecondHeader stands =
+line_rank count before here s n says many flat NoHeader stands = absurd stands
+line_rank count before here s n says many flat WrongKind stands = absurd stands
+line_rank count before here s n says many flat BadHeader stands = absurd stands
+line_rank count before here s n says many flat SecondHeader stands =
     absurd (no_cause_on count here.text s says SecondHeader stands)
-line_rank count before here s n says top many flat BadLine stands =
+line_rank count before here s n says many flat BadLine stands =
     absurd (no_cause_on count here.text s says BadLine stands)
-line_rank count before here s n says top many flat BadNumber stands =
+line_rank count before here s n says many flat BadNumber stands =
     absurd (no_cause_on count here.text s says BadNumber stands)
-line_rank count before here s n says top many flat OutOfRange stands =
+line_rank count before here s n says many flat OutOfRange stands =
     absurd (no_cause_on count here.text s says OutOfRange stands)
-line_rank count before here s n says top many flat TooManyLines stands = many stands
-line_rank count before here s n says top many flat NotFlat stands = flat stands
-line_rank count before here s n says top many flat SecondContrary stands = top
-line_rank count before here s n says top many flat ContraryOfNonAssumption stands = absurd stands
+line_rank count before here s n says many flat TooManyLines stands = many stands
+line_rank count before here s n says many flat NotFlat stands = flat stands
+line_rank count before here s n says many flat ContraryOfNonAssumption stands = absurd stands
 
 -- ---- refusals
 
@@ -158,6 +149,11 @@ not_rule : (count : ℕ) (here : LineText) (s : Said) → SaysLine count here.te
 not_rule count here s says no_rule yes_rule =
     let bad : true ≡ false = sym yes_rule ∙ rule_line count here s says ∙ no_rule in cc
 
+not_contrary : (count : ℕ) (here : LineText) (s : Said) → SaysLine count here.text s → is_contrary s ≡ false
+    → is_contrary_line here ≡ true → ⊥
+not_contrary count here s says no_contrary yes_contrary =
+    let bad : true ≡ false = sym yes_contrary ∙ contrary_line count here s says ∙ no_contrary in cc
+
 refused : (count : ℕ) (before : List LineText) (here : LineText) (all : List Said) (s : Said) (old : LineParts)
     (cause : LineCause) → AreLines count before all → IsSaidIn count all old → SaysLine count here.text s
     → Refuses s old cause → IsFirstCause (StandsOnLine count before here) cause
@@ -173,34 +169,17 @@ refused count before here all (says_assumption x) old cause are held says h =
     } in
     subst (IsFirstCause (StandsOnLine count before here)) (sym h.0) (record {
       stands = stands;
-      first = line_rank count before here s 9 says (omega arith)
-          (λ many. absurd (not_rule count here s says refl many.0)) (λ flat. omega arith);
+      first = line_rank count before here s 9 says
+          (λ many. absurd (⊎_elim (λ rule. not_rule count here s says refl rule.0)
+          (λ contrary. not_contrary count here s says refl contrary.0) many)) (λ flat. omega arith);
     })
 refused count before here all (says_contrary x y) old cause are held says h =
     let s : Said = says_contrary x y in
-    let z : ℕ = get_or old.contrary.items x 0 in
-    let given = held.contrary x h.1 in
-    let stands : IsSecondContrary count before here = record {
-      x = x;
-      y = y;
-      z = z;
-      gives = says;
-      gave = said_by_line count before all are.each (says_contrary x z) given;
-      differ = λ e. h.2 (sym e);
-    } in
-    let longer = all_zipped_more (λ line t. SaysLine count line.text t) before all here s are.each says in
-    let flat : AreNotFlat count (before ++ here ∷ []) → ⊥ = λ f.
-    are.consistent.flat f.x f.body
-    (still all s (says_assumption f.x) (other_kind s (says_assumption f.x) (λ e. omega arith))
-    (says_said count (before ++ here ∷ []) (all ++ s ∷ []) longer f.assumed.0 (says_assumption f.x) f.assumed.1
-    f.assumed.2))
-    (still all s (says_rule f.x f.body) (other_kind s (says_rule f.x f.body) (λ e. omega arith))
-    (says_said count (before ++ here ∷ []) (all ++ s ∷ []) longer f.heads.0 (says_rule f.x f.body) f.heads.1 f.heads.2))
-    in
+    let counted : count_by is_contrary_line before ≡ length old.contraries.items
+    = contrary_lines_count count before all are.each ∙ sym (ap length held.contraries) in
     subst (IsFirstCause (StandsOnLine count before here)) (sym h.0) (record {
-      stands = stands;
-      first = line_rank count before here s 10 says (omega arith)
-          (λ many. absurd (not_rule count here s says refl many.0)) (λ f. absurd (flat f));
+      stands = inr (contrary_line count here s says, omega (arith, h.1, counted));
+      first = line_rank count before here s 8 says (λ many. omega arith) (λ flat. omega arith);
     })
 refused count before here all (says_rule head body) old cause are held says h =
     let s : Said = says_rule head body in
@@ -209,8 +188,8 @@ refused count before here all (says_rule head body) old cause are held says h =
     ∙ sym (ap length held.rules.heads_are ∙ length-map (rules_said all) (λ r. r.0)) in
     elim h [
       | inl many ↦ subst (IsFirstCause (StandsOnLine count before here)) (sym many.0) (record {
-        stands = (rule_line count here s says, omega (arith, many.1, counted));
-        first = line_rank count before here s 8 says (omega arith) (λ m. omega arith) (λ f. omega arith);
+        stands = inl (rule_line count here s says, omega (arith, many.1, counted));
+        first = line_rank count before here s 8 says (λ m. omega arith) (λ f. omega arith);
       })
       | inr flat ↦ subst (IsFirstCause (StandsOnLine count before here)) (sym flat.0) (record {
         stands = record {
@@ -220,8 +199,9 @@ refused count before here all (says_rule head body) old cause are held says h =
               (said_by_line count before all are.each (says_assumption head) (held.assumed.marked head flat.2));
           heads = some_here count before here s says;
         };
-        first = line_rank count before here s 9 says (omega arith)
-            (λ m. absurd (omega (arith, m.1, counted, flat.1))) (λ f. omega arith);
+        first = line_rank count before here s 9 says
+            (λ m. absurd (⊎_elim (λ rule. absurd (omega (arith, rule.1, counted, flat.1)))
+            (λ contrary. not_contrary count here s says refl contrary.0) m)) (λ f. omega arith);
       })
     ]
 
@@ -274,17 +254,18 @@ good_line count lines all k d are within cause stands =
     by_cause s says BadLine stands = no_cause_on count (get_or lines k d).text s says BadLine stands
     by_cause s says BadNumber stands = no_cause_on count (get_or lines k d).text s says BadNumber stands
     by_cause s says OutOfRange stands = no_cause_on count (get_or lines k d).text s says OutOfRange stands
-    by_cause s says TooManyLines stands =
-        let more = count_by_more_yes is_rule_line lines k d within stands.0 in
+    by_cause s says TooManyLines (inl rule) =
+        let more = count_by_more_yes is_rule_line lines k d within rule.0 in
         let part = part_counts is_rule_line lines (k + 1) in
         let counted = rule_lines_count count lines all are.each in
         let few = are.consistent.few in
-        absurd (omega (arith, stands.1))
+        absurd (omega (arith, rule.1))
+    by_cause s says TooManyLines (inr contrary) =
+        let more = count_by_more_yes is_contrary_line lines k d within contrary.0 in
+        let part = part_counts is_contrary_line lines (k + 1) in
+        let counted = contrary_lines_count count lines all are.each in
+        let few = are.consistent.few_contraries in
+        absurd (omega (arith, contrary.1))
     by_cause s says NotFlat stands = are.consistent.flat stands.x stands.body
         (upto (says_assumption stands.x) stands.assumed) (upto (says_rule stands.x stands.body) stands.heads)
-    by_cause s says SecondContrary stands = stands.differ (are.consistent.one_contrary stands.x stands.y stands.z
-        (upto (says_contrary stands.x stands.y)
-        (some_here count (take k lines) (get_or lines k d) (says_contrary stands.x stands.y) stands.gives))
-        (said (says_contrary stands.x stands.z)
-        (some_of_part count lines k (says_contrary stands.x stands.z) stands.gave)))
     by_cause s says ContraryOfNonAssumption stands = stands

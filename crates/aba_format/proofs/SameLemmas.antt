@@ -1,18 +1,17 @@
 -- A text has one reading.
-use Rattle.std.proofs.Common.{◌≡◌, ℕ, zero, suc, ◌+◌, ◌<◌, ◌≤◌, List, [], ◌∷◌, ◌++◌, length, map, get_or, refl, sym, ap, subst, ◌∙◌, ◌⊎◌, inl, inr, ⊎_elim, arith}
-use Rattle.std.specs.Prelude.{Contains, ◌↔◌}
+use Rattle.std.proofs.Common.{◌≡◌, ℕ, ◌+◌, List, [], ◌∷◌, length, map, get_or, refl, sym, ap, subst, ◌∙◌}
+use Rattle.std.specs.Prelude.{Contains}
 use Rattle.std.specs.List.{AllZip, range_with_len}
 use Rattle.std.specs.List.Sorted.{IsStrictlyIncreasing}
-use Rattle.std.proofs.lemmas.List.{length-map}
 use Rattle.std.proofs.lemmas.Slice.Zip.{AllZip-long}
 use Rattle.lists.proofs.Membership.{Contains-head, Contains-tail}
 use Rattle.num_text.specs.Cuts.{LineText}
-use Rattle.num_text.specs.Lines.{kept}
-use Rattle.af_format.specs.Headers.{aba_word, IsHeaderOf, BeginWith}
+use Rattle.af_format.specs.Headers.{aba_word, IsHeaderOf}
 use Rattle.af_format.proofs.LineCauses.{IsHeaderOf-same}
+use Rattle.af_format.proofs.Readings.{rising_same}
 use Rattle.semantics.specs.Rules.{Rule}
-use Rattle.semantics.specs.AbaFrameworks.{Aba, IsNumberedAba}
-use Rattle.aba_format.specs.AbaText.{Said, says_assumption, says_contrary, SaysLine, rules_said, AreConsistent, IsAbaText, IsContrarySaid, IsRuleSaid, IsFrameworkOf, ReadsAs}
+use Rattle.semantics.specs.AbaFrameworks.{Aba}
+use Rattle.aba_format.specs.AbaText.{Said, SaysLine, rules_said, IsAbaText, IsRuleSaid, IsFrameworkOf, ReadsAs}
 use Rattle.aba_format.proofs.SaysLemmas.{SaysLine-same}
 use Rattle.lists.proofs.RisingLists.{same_rising}
 use Rattle.lists.proofs.Zips.{zip_same}
@@ -31,25 +30,6 @@ IsAbaText-same bytes m n ss ts a b =
       zip_same (λ (line : LineText) s. SaysLine n line.text s)
           (λ line s t. SaysLine-same n line.text s t) b.others ss ts each b.others_are.each,
     )
-
--- pairs with the same first numbers, whose second ones agree
-pairs_same : (ps qs : List (ℕ × ℕ)) → map (λ p. p.0) ps ≡ map (λ p. p.0) qs
-    → ((a c d : ℕ) → Contains ps (a, c) → Contains qs (a, d) → c ≡ d) → ps ≡ qs
-pairs_same [] [] e same = refl
-pairs_same [] (q ∷ qs) e same = let n = ap length e in absurd (omega arith)
-pairs_same (p ∷ ps) [] e same = let n = ap length e in absurd (omega arith)
-pairs_same (p ∷ ps) (q ∷ qs) e same =
-    let first : p.0 ≡ q.0 = ap (λ xs. get_or xs 0 0) e in
-    let second : p.1 ≡ q.1 = same p.0 p.1 q.1 (Contains-head p ps p refl)
-    (Contains-head q qs (p.0, q.1) (ap (λ n. (n, q.1)) (sym first))) in
-    let here : p ≡ q = ap (λ n. (n, p.1)) first ∙ ap (λ n. (q.0, n)) second in
-    ap (λ r. r ∷ ps) here
-    ∙ ap (λ rs. q ∷ rs) (pairs_same ps qs (ap rest_of e)
-    (λ a c d h k. same a c d (Contains-tail p ps (a, c) h) (Contains-tail q qs (a, d) k)))
-  where
-    rest_of : List ℕ → List ℕ
-    rest_of [] = []
-    rest_of (x ∷ xs) = xs
 
 -- rules are told by their numbers, their heads and the members of their bodies
 rule_same : (r s : Rule) → r.number ≡ s.number → r.head ≡ s.head → r.body ≡ s.body → r ≡ s
@@ -77,30 +57,26 @@ rules_same (p ∷ ps) (r ∷ rs) (s ∷ ss) a b e up up' =
     rest_of [] = []
     rest_of (x ∷ xs) = xs
 
-contrary_same : (all : List Said) → AreConsistent all → (a c d : ℕ) → IsContrarySaid all a c → IsContrarySaid all a d
-    → c ≡ d
-contrary_same all ok a c d (inl x) (inl y) = ok.one_contrary a c d x y
-contrary_same all ok a c d (inl x) (inr y) = absurd (y.2 c x)
-contrary_same all ok a c d (inr x) (inl y) = absurd (x.2 d y)
-contrary_same all ok a c d (inr x) (inr y) = x.0 ∙ sym y.0
-
 frameworks_same : (f g : Aba) → f.atoms ≡ g.atoms → f.assumptions ≡ g.assumptions → f.contraries ≡ g.contraries
     → f.rules ≡ g.rules → f.next ≡ g.next → f ≡ g
 frameworks_same f g a b c d e =
     λ i. record { atoms = a i; assumptions = b i; contraries = c i; rules = d i; next = e i }
 
-IsFrameworkOf-same : (count : ℕ) (all : List Said) (f g : Aba) → AreConsistent all → IsFrameworkOf count all f
+IsFrameworkOf-same : (count : ℕ) (all : List Said) (f g : Aba) → IsFrameworkOf count all f
     → IsFrameworkOf count all g → f ≡ g
-IsFrameworkOf-same count all f g ok a b =
+IsFrameworkOf-same count all f g a b =
     let assumptions : f.assumptions ≡ g.assumptions
     = same_rising f.assumptions g.assumptions a.form.form.assumptions_rise b.form.form.assumptions_rise
     (λ x. (
       λ c. (b.assumptions_are x).1 ((a.assumptions_are x).0 c),
       λ c. (a.assumptions_are x).1 ((b.assumptions_are x).0 c),
     )) in
-    let contraries : f.contraries ≡ g.contraries = pairs_same f.contraries g.contraries
-    (a.form.form.one_contrary ∙ assumptions ∙ sym b.form.form.one_contrary)
-    (λ x c d h k. contrary_same all ok x c d ((a.contraries_are x c).0 h) ((b.contraries_are x d).0 k)) in
+    let contraries : f.contraries ≡ g.contraries
+    = rising_same f.contraries g.contraries a.form.form.contraries_rise b.form.form.contraries_rise
+    (λ p. (
+      λ c. (b.contraries_are p.0 p.1).1 ((a.contraries_are p.0 p.1).0 c),
+      λ c. (a.contraries_are p.0 p.1).1 ((b.contraries_are p.0 p.1).0 c),
+    )) in
     let long : length f.rules ≡ length g.rules
     = AllZip-long IsRuleSaid (rules_said all) f.rules a.rules_are
     ∙ sym (AllZip-long IsRuleSaid (rules_said all) g.rules b.rules_are) in
@@ -115,6 +91,6 @@ IsFrameworkOf-same count all f g ok a b =
 pub ReadsAs-same : (bytes : List ℕ) (f g : Aba) → ReadsAs bytes f → ReadsAs bytes g → f ≡ g
 ReadsAs-same bytes f g a b =
     let same = IsAbaText-same bytes a.count b.count a.all b.all a.text b.text in
-    IsFrameworkOf-same b.count b.all f g b.text.others_are.consistent
+    IsFrameworkOf-same b.count b.all f g
     (subst (λ n. IsFrameworkOf n b.all f) same.0 (subst (λ ss. IsFrameworkOf a.count ss f) same.1 a.framework))
     b.framework

@@ -1,15 +1,14 @@
 -- A line says one thing alone.
-use Rattle.std.proofs.Common.{◌≡◌, ℕ, zero, suc, ◌+◌, ◌<◌, ◌≤◌, List, [], ◌∷◌, ◌++◌, length, get_or, refl, sym, ap, subst, ◌∙◌, ◌⊎◌, inl, inr, ⊎_elim, Bool, true, false, arith}
-use Rattle.std.specs.Prelude.{Contains, codes, count_by}
+use Rattle.std.proofs.Common.{◌≡◌, ℕ, zero, suc, ◌<◌, List, [], ◌∷◌, ◌++◌, length, get_or, refl, sym, ap, subst, ◌∙◌, ⊎_elim, Bool, true, false, arith}
+use Rattle.std.specs.Prelude.{Contains, count_by}
 use Rattle.std.specs.List.{AllZip}
-use Rattle.num_text.specs.Cuts.{LineText, field_texts}
+use Rattle.num_text.specs.Cuts.{LineText}
 use Rattle.lists.proofs.Counts.{count_yes, count_no}
 use Rattle.lists.proofs.Membership.{Contains-head, Contains-tail, Contains-cons_cases}
 use Rattle.af_format.proofs.LineCauses.{IsNumber-same}
-use Rattle.af_format.proofs.Zips.{AllZip-at}
 use Rattle.semantics.specs.AbaFrameworks.{IsAtom}
-use Rattle.aba_format.specs.AbaText.{Said, says_assumption, says_contrary, says_rule, keyword, atoms_of, SpellsAtom, SaysLine, rules_said}
-use Rattle.aba_format.specs.Faults.{behind_first, begin_with_r, is_rule_line, SaySome}
+use Rattle.aba_format.specs.AbaText.{Said, says_assumption, says_contrary, says_rule, keyword, atoms_of, SpellsAtom, SaysLine, contraries_said, rules_said}
+use Rattle.aba_format.specs.Faults.{behind_first, begin_with, is_contrary_line, is_rule_line, SaySome}
 use Rattle.lists.proofs.Zips.{zip_same}
 
 -- ---- words
@@ -73,9 +72,9 @@ is_rule (says_contrary x y) = false
 is_rule (says_rule head body) = true
 
 pub rule_line : (count : ℕ) (line : LineText) (s : Said) → SaysLine count line.text s → is_rule_line line ≡ is_rule s
-rule_line count line s says = ap begin_with_r says.fields ∙ by_word s says.texts
+rule_line count line s says = ap (begin_with 114) says.fields ∙ by_word s says.texts
   where
-    by_word : (s : Said) (texts : List (List ℕ)) → begin_with_r (keyword s ∷ texts) ≡ is_rule s
+    by_word : (s : Said) (texts : List (List ℕ)) → begin_with 114 (keyword s ∷ texts) ≡ is_rule s
     by_word (says_assumption x) texts = refl
     by_word (says_contrary x y) texts = refl
     by_word (says_rule head body) texts = refl
@@ -127,6 +126,76 @@ listed_rule (says_rule h b ∷ ss) r c = ⊎_elim
     (λ (d : Contains (rules_said ss) r).
     Contains-tail (says_rule h b) ss (says_rule r.0 r.1) (listed_rule ss r d))
     (Contains-cons_cases (h, b) (rules_said ss) r c)
+
+-- ---- contrary lines
+
+abbrev pub is_contrary : Said → Bool
+is_contrary (says_assumption x) = false
+is_contrary (says_contrary x y) = true
+is_contrary (says_rule head body) = false
+
+pub contrary_line : (count : ℕ) (line : LineText) (s : Said) → SaysLine count line.text s
+    → is_contrary_line line ≡ is_contrary s
+contrary_line count line s says = ap (begin_with 99) says.fields ∙ by_word s says.texts
+  where
+    by_word : (s : Said) (texts : List (List ℕ)) → begin_with 99 (keyword s ∷ texts) ≡ is_contrary s
+    by_word (says_assumption x) texts = refl
+    by_word (says_contrary x y) texts = refl
+    by_word (says_rule head body) texts = refl
+
+-- there are as many contrary lines as contraries
+pub contrary_lines_count : (count : ℕ) (lines : List LineText) (all : List Said)
+    → AllZip (λ line s. SaysLine count line.text s) lines all
+    → count_by is_contrary_line lines ≡ length (contraries_said all)
+contrary_lines_count count [] [] zip = refl
+contrary_lines_count count [] (s ∷ ss) zip = absurd zip
+contrary_lines_count count (l ∷ ls) [] zip = absurd zip
+contrary_lines_count count (l ∷ ls) (says_assumption x ∷ ss) zip =
+    count_no is_contrary_line l ls (contrary_line count l (says_assumption x) zip.0)
+    ∙ contrary_lines_count count ls ss zip.1
+contrary_lines_count count (l ∷ ls) (says_contrary x y ∷ ss) zip =
+    let more = count_yes is_contrary_line l ls (contrary_line count l (says_contrary x y) zip.0) in
+    let rest = contrary_lines_count count ls ss zip.1 in
+    more ∙ (omega arith)
+contrary_lines_count count (l ∷ ls) (says_rule head body ∷ ss) zip =
+    count_no is_contrary_line l ls (contrary_line count l (says_rule head body) zip.0)
+    ∙ contrary_lines_count count ls ss zip.1
+
+pub contraries_said-append : (all more : List Said)
+    → contraries_said (all ++ more) ≡ contraries_said all ++ contraries_said more
+contraries_said-append [] more = refl
+contraries_said-append (says_assumption x ∷ ss) more = contraries_said-append ss more
+contraries_said-append (says_contrary x y ∷ ss) more = ap (λ cs. (x, y) ∷ cs) (contraries_said-append ss more)
+contraries_said-append (says_rule head body ∷ ss) more = contraries_said-append ss more
+
+-- a contrary that is said stands among them, and the other way round
+pub contrary_listed : (all : List Said) (x y : ℕ) → Contains all (says_contrary x y)
+    → Contains (contraries_said all) (x, y)
+contrary_listed all x y c = at all c.0 c.1 c.2
+  where
+    at : (all : List Said) (k : ℕ) → k < length all → get_or all k (says_contrary x y) ≡ says_contrary x y
+        → Contains (contraries_said all) (x, y)
+    at [] k within e = absurd (omega arith)
+    at (s ∷ ss) zero within e =
+        subst (λ t. Contains (contraries_said (t ∷ ss)) (x, y)) (sym e) (0, omega arith, refl)
+    at (says_assumption z ∷ ss) (suc k) within e = at ss k (omega arith) e
+    at (says_contrary z w ∷ ss) (suc k) within e =
+        Contains-tail (z, w) (contraries_said ss) (x, y) (at ss k (omega arith) e)
+    at (says_rule h b ∷ ss) (suc k) within e = at ss k (omega arith) e
+
+pub listed_contrary : (all : List Said) (p : ℕ × ℕ) → Contains (contraries_said all) p
+    → Contains all (says_contrary p.0 p.1)
+listed_contrary [] p c = absurd (omega (arith, c.1))
+listed_contrary (says_assumption x ∷ ss) p c =
+    Contains-tail (says_assumption x) ss (says_contrary p.0 p.1) (listed_contrary ss p c)
+listed_contrary (says_contrary x y ∷ ss) p c = ⊎_elim
+    (λ (e : (x, y) ≡ p). Contains-head (says_contrary x y) ss (says_contrary p.0 p.1)
+    (ap (λ q. says_contrary q.0 q.1) e))
+    (λ (d : Contains (contraries_said ss) p).
+    Contains-tail (says_contrary x y) ss (says_contrary p.0 p.1) (listed_contrary ss p d))
+    (Contains-cons_cases (x, y) (contraries_said ss) p c)
+listed_contrary (says_rule h b ∷ ss) p c =
+    Contains-tail (says_rule h b) ss (says_contrary p.0 p.1) (listed_contrary ss p c)
 
 -- ---- lines and what they say
 

@@ -1,9 +1,9 @@
 -- What the lines say, with one line more.
-use Rattle.std.proofs.Common.{◌≡◌, ◌≢◌, ℕ, zero, suc, ◌+◌, ◌<◌, ◌≤◌, List, [], ◌∷◌, ◌++◌, length, map, get_or, set}
+use Rattle.std.proofs.Common.{◌≡◌, ℕ, ◌+◌, ◌<◌, ◌≤◌, List, [], ◌∷◌, ◌++◌, length, map, get_or, set}
 use Rattle.std.proofs.Common.{refl, sym, ap, subst, ◌∙◌, ◌⊎◌, inl, inr, ⊎_elim, Bool, true, false, arith}
 use Rattle.std.proofs.Common.{get_or-set_same, get_or-set_other}
 use Rattle.std.specs.Prelude.{Contains}
-use Rattle.std.proofs.lemmas.Bool.{cases_eq, cases_Bool}
+use Rattle.std.proofs.lemmas.Bool.{cases_eq}
 use Rattle.std.proofs.lemmas.List.{length-append, length-map, map-append, append-nil, get_or_append_left, length-set}
 use Rattle.std.proofs.lemmas.List.Elements.{Contains-push_cases, Contains-append_left, Contains-append_right}
 use Rattle.std.proofs.lemmas.List.Elements.{Contains-append_cases}
@@ -11,7 +11,7 @@ use Rattle.std.proofs.Math.Seq.{get_or-append_seam}
 use Rattle.lists.proofs.Membership.{Contains-pushed}
 use Rattle.semantics.specs.AbaFrameworks.{IsAtom}
 use Rattle.aba_format.specs.AbaText.{Said, says_assumption, says_contrary, says_rule, atoms_of, SaysLine}
-use Rattle.aba_format.specs.AbaText.{rules_said, AreConsistent}
+use Rattle.aba_format.specs.AbaText.{contraries_said, rules_said, AreConsistent}
 use Rattle.aba_format.specs.Reading.{
   is_marked,
   AreMarked,
@@ -22,14 +22,15 @@ use Rattle.aba_format.specs.Reading.{
   AreEmpty,
   AddsAssumption,
   IsNewAssumption,
+  IsOpposedAgain,
+  IsFirstOpposed,
   AddsContrary,
-  IsNewContrary,
   AddsRule,
   Adds,
 }
 use Rattle.aba_format.specs.declared.said.LineParts.{LineParts}
-use Rattle.aba_format.specs.declared.said.TheConstants.{MAX_RULE_LINES}
-use Rattle.aba_format.proofs.SaysLemmas.{rules_said-append, atoms_within}
+use Rattle.aba_format.specs.declared.said.TheConstants.{MAX_CONTRARY_LINES, MAX_RULE_LINES}
+use Rattle.aba_format.proofs.SaysLemmas.{atoms_within, contraries_said-append, rules_said-append}
 use Rattle.lists.proofs.Images.{image_there, image_from}
 
 -- ---- what is said, with one thing more
@@ -85,7 +86,7 @@ marks_more marks y P Q h wide here to from = record {
 
 pub said_nothing : (count : ℕ) (parts : LineParts) → AreEmpty count parts → IsSaidIn count [] parts
 said_nothing count parts h = record {
-  wide = record { assumed = h.assumed_wide; heading = h.heading_wide; contrary = h.contrary_wide };
+  wide = record { assumed = h.assumed_wide; heading = h.heading_wide; opposed = h.opposed_wide };
   assumed = record {
     marked = λ x m. absurd (not_both x (h.assumed x) m);
     all = λ x c. absurd (omega (arith, c.1));
@@ -94,9 +95,11 @@ said_nothing count parts h = record {
     marked = λ x m. absurd (not_both x (h.heading x) m);
     all = λ x c. absurd (omega (arith, c.1.1));
   };
-  contrary = λ x ne. absurd (ne (h.contrary x));
-  contraries_all = λ x y c. absurd (omega (arith, c.1));
-  contraries_low = λ x y c. absurd (omega (arith, c.1));
+  opposed = record {
+    marked = λ x m. absurd (not_both x (h.opposed x) m);
+    all = λ x c. absurd (omega (arith, c.1.1));
+  };
+  contraries = h.contraries;
   assumptions = λ x c. absurd (none h.assumptions c);
   assumptions_all = λ x c. absurd (omega (arith, c.1));
   rules = record {
@@ -116,8 +119,8 @@ said_nothing count parts h = record {
 pub consistent_nothing : AreConsistent []
 consistent_nothing = record {
   few = omega arith;
+  few_contraries = omega arith;
   flat = λ x body c d. absurd (omega (arith, c.1));
-  one_contrary = λ x y z c d. absurd (omega (arith, c.1));
 }
 
 -- ---- what another thing leaves
@@ -137,23 +140,13 @@ heading_kept all s marks ne h = marks_kept marks (λ x. (body : List ℕ) × Con
     (λ x c. (c.0, kept all s (says_rule x c.0) c.1))
     (λ x c. (c.0, still all s (says_rule x c.0) (other_kind s (says_rule x c.0) ne) c.1))
 
--- the contraries stand by atom
-record AreContraries (all : List Said) (contrary : List ℕ) : Type 0 where
-  some : (x : ℕ) → get_or contrary x 0 ≢ 0 → Contains all (says_contrary x (get_or contrary x 0))
-  every : (x y : ℕ) → Contains all (says_contrary x y) → get_or contrary x 0 ≡ y
-  low : (x y : ℕ) → Contains all (says_contrary x y) → 1 ≤ y
-
-contraries_in : (count : ℕ) (all : List Said) (parts : LineParts) → IsSaidIn count all parts
-    → AreContraries all parts.contrary.items
-contraries_in count all parts h = record { some = h.contrary; every = h.contraries_all; low = h.contraries_low }
-
-contrary_kept : (all : List Said) (s : Said) (contrary : List ℕ) → (kind s ≡ 1 → ⊥) → AreContraries all contrary
-    → AreContraries (all ++ s ∷ []) contrary
-contrary_kept all s contrary ne h = record {
-  some = λ x given. kept all s (says_contrary x (get_or contrary x 0)) (h.some x given);
-  every = λ x y c. h.every x y (still all s (says_contrary x y) (other_kind s (says_contrary x y) ne) c);
-  low = λ x y c. h.low x y (still all s (says_contrary x y) (other_kind s (says_contrary x y) ne) c);
-}
+opposed_kept : (all : List Said) (s : Said) (marks : List Bool) → (kind s ≡ 1 → ⊥)
+    → AreMarked marks (λ x. (y : ℕ) × Contains all (says_contrary x y))
+    → AreMarked marks (λ x. (y : ℕ) × Contains (all ++ s ∷ []) (says_contrary x y))
+opposed_kept all s marks ne h = marks_kept marks (λ x. (y : ℕ) × Contains all (says_contrary x y))
+    (λ x. (y : ℕ) × Contains (all ++ s ∷ []) (says_contrary x y)) h
+    (λ x c. (c.0, kept all s (says_contrary x c.0) c.1))
+    (λ x c. (c.0, still all s (says_contrary x c.0) (other_kind s (says_contrary x c.0) ne) c.1))
 
 -- the assumptions stand in a list
 record AreAssumptions (all : List Said) (xs : List ℕ) : Type 0 where
@@ -171,37 +164,44 @@ assumptions_kept all s xs ne h = record {
   every = λ x c. h.every x (still all s (says_assumption x) (other_kind s (says_assumption x) ne) c);
 }
 
--- the rules that are said stay, where what is new is none
+-- the rules and the contraries that are said stay, where what is new is none
+rules_stay : (all : List Said) (s : Said) → rules_said (s ∷ []) ≡ [] → rules_said (all ++ s ∷ []) ≡ rules_said all
+rules_stay all s none = rules_said-append all (s ∷ []) ∙ ap (λ rs. rules_said all ++ rs) none
+    ∙ append-nil (rules_said all)
+
+contraries_stay : (all : List Said) (s : Said) → contraries_said (s ∷ []) ≡ []
+    → contraries_said (all ++ s ∷ []) ≡ contraries_said all
+contraries_stay all s none = contraries_said-append all (s ∷ []) ∙ ap (λ cs. contraries_said all ++ cs) none
+    ∙ append-nil (contraries_said all)
+
 rules_kept : (all : List Said) (s : Said) (heads : List ℕ) (bodies : List (ℕ × ℕ)) → rules_said (s ∷ []) ≡ []
     → AreRulesIn (rules_said all) heads bodies → AreRulesIn (rules_said (all ++ s ∷ [])) heads bodies
 rules_kept all s heads bodies none h =
-    subst (λ rs. AreRulesIn rs heads bodies)
-    (sym (rules_said-append all (s ∷ []) ∙ ap (λ rs. rules_said all ++ rs) none ∙ append-nil (rules_said all))) h
+    subst (λ rs. AreRulesIn rs heads bodies) (sym (rules_stay all s none)) h
 
 -- the parts hold what is said in these lists
-said_in_lists : (count : ℕ) (all : List Said) (parts : LineParts) (assumed heading : List Bool)
-    (contrary assumptions heads : List ℕ) (bodies : List (ℕ × ℕ)) → parts.assumed.items ≡ assumed
-    → parts.heading.items ≡ heading → parts.contrary.items ≡ contrary → parts.assumptions.items ≡ assumptions
-    → parts.heads.items ≡ heads → parts.bodies.items ≡ bodies → length assumed ≡ count + 1
-    → length heading ≡ count + 1 → length contrary ≡ count + 1
+said_in_lists : (count : ℕ) (all : List Said) (parts : LineParts) (assumed heading opposed : List Bool)
+    (assumptions heads : List ℕ) (contraries bodies : List (ℕ × ℕ)) → parts.assumed.items ≡ assumed
+    → parts.heading.items ≡ heading → parts.opposed.items ≡ opposed → parts.assumptions.items ≡ assumptions
+    → parts.contraries.items ≡ contraries → parts.heads.items ≡ heads → parts.bodies.items ≡ bodies
+    → length assumed ≡ count + 1 → length heading ≡ count + 1 → length opposed ≡ count + 1
     → AreMarked assumed (λ x. Contains all (says_assumption x))
-    → AreMarked heading (λ x. (body : List ℕ) × Contains all (says_rule x body)) → AreContraries all contrary
-    → AreAssumptions all assumptions → AreRulesIn (rules_said all) heads bodies → IsSaidIn count all parts
-said_in_lists count all parts assumed heading contrary assumptions heads bodies e1 e2 e3 e4 e5 e6 w1 w2 w3 m1 m2 cs asms
-    rs =
-    let cs' : AreContraries all parts.contrary.items = subst (AreContraries all) (sym e3) cs in
+    → AreMarked heading (λ x. (body : List ℕ) × Contains all (says_rule x body))
+    → AreMarked opposed (λ x. (y : ℕ) × Contains all (says_contrary x y)) → AreAssumptions all assumptions
+    → contraries ≡ contraries_said all → AreRulesIn (rules_said all) heads bodies → IsSaidIn count all parts
+said_in_lists count all parts assumed heading opposed assumptions heads contraries bodies e1 e2 e3 e4 e5 e6 e7 w1 w2 w3
+    m1 m2 m3 asms cs rs =
     let asms' : AreAssumptions all parts.assumptions.items = subst (AreAssumptions all) (sym e4) asms in
     record {
-      wide = record { assumed = ap length e1 ∙ w1; heading = ap length e2 ∙ w2; contrary = ap length e3 ∙ w3 };
+      wide = record { assumed = ap length e1 ∙ w1; heading = ap length e2 ∙ w2; opposed = ap length e3 ∙ w3 };
       assumed = subst (λ ms. AreMarked ms (λ x. Contains all (says_assumption x))) (sym e1) m1;
       heading = subst (λ ms. AreMarked ms (λ x. (body : List ℕ) × Contains all (says_rule x body))) (sym e2) m2;
-      contrary = cs'.some;
-      contraries_all = cs'.every;
-      contraries_low = cs'.low;
+      opposed = subst (λ ms. AreMarked ms (λ x. (y : ℕ) × Contains all (says_contrary x y))) (sym e3) m3;
+      contraries = e5 ∙ cs;
       assumptions = asms'.some;
       assumptions_all = asms'.every;
-      rules = subst (λ hs. AreRulesIn (rules_said all) hs parts.bodies.items) (sym e5)
-          (subst (λ bs. AreRulesIn (rules_said all) heads bs) (sym e6) rs);
+      rules = subst (λ hs. AreRulesIn (rules_said all) hs parts.bodies.items) (sym e6)
+          (subst (λ bs. AreRulesIn (rules_said all) heads bs) (sym e7) rs);
     }
 
 -- ---- an assumption more
@@ -211,17 +211,18 @@ assumption_again : (count : ℕ) (all : List Said) (x : ℕ) (old : LineParts) �
 assumption_again count all x old h c =
     let s : Said = says_assumption x in
     let asms = assumptions_in count all old h in
-    said_in_lists count (all ++ s ∷ []) old old.assumed.items old.heading.items old.contrary.items
-    old.assumptions.items old.heads.items old.bodies.items refl refl refl refl refl refl h.wide.assumed h.wide.heading
-    h.wide.contrary
+    said_in_lists count (all ++ s ∷ []) old old.assumed.items old.heading.items old.opposed.items
+    old.assumptions.items old.heads.items old.contraries.items old.bodies.items refl refl refl refl refl refl refl
+    h.wide.assumed h.wide.heading h.wide.opposed
     (marks_kept old.assumed.items (λ z. Contains all (says_assumption z))
     (λ z. Contains (all ++ s ∷ []) (says_assumption z)) h.assumed (λ z d. kept all s (says_assumption z) d) back)
     (heading_kept all s old.heading.items (λ e. omega arith) h.heading)
-    (contrary_kept all s old.contrary.items (λ e. omega arith) (contraries_in count all old h))
+    (opposed_kept all s old.opposed.items (λ e. omega arith) h.opposed)
     (record {
       some = λ z d. kept all s (says_assumption z) (asms.some z d);
       every = λ z d. asms.every z (back z d);
     })
+    (h.contraries ∙ sym (contraries_stay all s refl))
     (rules_kept all s old.heads.items old.bodies.items refl h.rules)
   where
     back : (z : ℕ) → Contains (all ++ says_assumption x ∷ []) (says_assumption z) → Contains all (says_assumption z)
@@ -237,16 +238,17 @@ assumption_new count all x old new h atom a =
     let high = atom.high in
     let wide_is = h.wide.assumed in
     let wide : x < length old.assumed.items = omega arith in
-    said_in_lists count (all ++ s ∷ []) new (set old.assumed.items x true) old.heading.items old.contrary.items
-    (old.assumptions.items ++ x ∷ []) old.heads.items old.bodies.items a.assumed a.heading a.contrary a.assumptions
-    a.heads a.bodies (length-set old.assumed.items x true ∙ h.wide.assumed) h.wide.heading h.wide.contrary
+    said_in_lists count (all ++ s ∷ []) new (set old.assumed.items x true) old.heading.items old.opposed.items
+    (old.assumptions.items ++ x ∷ []) old.heads.items old.contraries.items old.bodies.items a.assumed a.heading
+    a.opposed a.assumptions a.contraries a.heads a.bodies (length-set old.assumed.items x true ∙ h.wide.assumed)
+    h.wide.heading h.wide.opposed
     (marks_more old.assumed.items x (λ z. Contains all (says_assumption z))
     (λ z. Contains (all ++ s ∷ []) (says_assumption z)) h.assumed wide
     (newest all s) (λ z d. kept all s (says_assumption z) d)
     (λ z d. ⊎_elim (λ there. inl there) (λ (e : says_assumption x ≡ says_assumption z). inr (sym (ap first_atom e)))
     (Contains-push_cases all s (says_assumption z) d)))
     (heading_kept all s old.heading.items (λ e. omega arith) h.heading)
-    (contrary_kept all s old.contrary.items (λ e. omega arith) (contraries_in count all old h))
+    (opposed_kept all s old.opposed.items (λ e. omega arith) h.opposed)
     (record {
       some = λ z d. ⊎_elim
           (λ there. kept all s (says_assumption z) (h.assumptions z there))
@@ -257,6 +259,7 @@ assumption_new count all x old new h atom a =
           (λ (e : says_assumption x ≡ says_assumption z). Contains-pushed old.assumptions.items x z (ap first_atom e))
           (Contains-push_cases all s (says_assumption z) d);
     })
+    (h.contraries ∙ sym (contraries_stay all s refl))
     (rules_kept all s old.heads.items old.bodies.items refl h.rules)
 
 assumption_next : (count : ℕ) (all : List Said) (x : ℕ) (old new : LineParts) → IsSaidIn count all old → IsAtom count x
@@ -270,10 +273,12 @@ assumption_next count all x old new h atom a = ⊎_elim
 assumption_consistent : (count : ℕ) (all : List Said) (x : ℕ) (old : LineParts) → IsSaidIn count all old
     → is_marked old.heading.items x ≡ false → AreConsistent all → AreConsistent (all ++ says_assumption x ∷ [])
 assumption_consistent count all x old h flat ok =
-    let rules : rules_said (all ++ says_assumption x ∷ []) ≡ rules_said all
-    = rules_said-append all (says_assumption x ∷ []) ∙ append-nil (rules_said all) in
+    let few = ok.few in
+    let few' = ok.few_contraries in
     record {
-      few = let few = ok.few in subst (λ rs. length rs ≤ MAX_RULE_LINES) (sym rules) few;
+      few = subst (λ rs. length rs ≤ MAX_RULE_LINES) (sym (rules_stay all (says_assumption x) refl)) few;
+      few_contraries = subst (λ cs. length cs ≤ MAX_CONTRARY_LINES) (sym (contraries_stay all (says_assumption x) refl))
+          few';
       flat = λ z body c d.
           let rule = still all (says_assumption x) (says_rule z body)
           (other_kind (says_assumption x) (says_rule z body) (λ e. omega arith)) d in
@@ -283,121 +288,72 @@ assumption_consistent count all x old h flat ok =
           = h.heading.all x (body, subst (λ n. Contains all (says_rule n body)) (sym (ap first_atom e)) rule) in
           let bad : true ≡ false = sym marked ∙ flat in cc)
           (Contains-push_cases all (says_assumption x) (says_assumption z) c);
-      one_contrary = λ z y w c d. ok.one_contrary z y w
-          (still all (says_assumption x) (says_contrary z y)
-          (other_kind (says_assumption x) (says_contrary z y) (λ e. omega arith)) c)
-          (still all (says_assumption x) (says_contrary z w)
-          (other_kind (says_assumption x) (says_contrary z w) (λ e. omega arith)) d);
     }
 
 -- ---- a contrary more
 
-contrary_again : (count : ℕ) (all : List Said) (x y : ℕ) (old : LineParts) → IsSaidIn count all old
-    → get_or old.contrary.items x 0 ≡ y → 1 ≤ y → IsSaidIn count (all ++ says_contrary x y ∷ []) old
-contrary_again count all x y old h same low =
+-- the marks of atoms with contraries, with one of x more
+opposed_next : (all : List Said) (x y line : ℕ) (old new : LineParts)
+    → AreMarked old.opposed.items (λ z. (w : ℕ) × Contains all (says_contrary z w)) → x < length old.opposed.items
+    → IsOpposedAgain x old new ⊎ IsFirstOpposed x line old new
+    → AreMarked new.opposed.items (λ z. (w : ℕ) × Contains (all ++ says_contrary x y ∷ []) (says_contrary z w))
+opposed_next all x y line old new h wide (inl again) =
     let s : Said = says_contrary x y in
-    let cs = contraries_in count all old h in
-    said_in_lists count (all ++ s ∷ []) old old.assumed.items old.heading.items old.contrary.items
-    old.assumptions.items old.heads.items old.bodies.items refl refl refl refl refl refl h.wide.assumed h.wide.heading
-    h.wide.contrary
-    (assumed_kept all s old.assumed.items (λ e. omega arith) h.assumed)
-    (heading_kept all s old.heading.items (λ e. omega arith) h.heading)
-    (record {
-      some = λ z given. kept all s (says_contrary z (get_or old.contrary.items z 0)) (cs.some z given);
-      every = λ z w d. ⊎_elim (λ there. cs.every z w there)
-          (λ (e : says_contrary x y ≡ says_contrary z w).
-          sym (ap (λ n. get_or old.contrary.items n 0) (ap first_atom e)) ∙ same ∙ ap second_atom e)
-          (Contains-push_cases all s (says_contrary z w) d);
-      low = λ z w d. ⊎_elim (λ there. cs.low z w there)
-          (λ (e : says_contrary x y ≡ says_contrary z w). subst (λ n. 1 ≤ n) (ap second_atom e) low)
-          (Contains-push_cases all s (says_contrary z w) d);
-    })
-    (assumptions_kept all s old.assumptions.items (λ e. omega arith) (assumptions_in count all old h))
-    (rules_kept all s old.heads.items old.bodies.items refl h.rules)
+    let P : ℕ → Type 0 = λ z. (w : ℕ) × Contains all (says_contrary z w) in
+    let Q : ℕ → Type 0 = λ z. (w : ℕ) × Contains (all ++ s ∷ []) (says_contrary z w) in
+    subst (λ ms. AreMarked ms Q) (sym again.opposed)
+    (marks_kept old.opposed.items P Q h (λ z d. (d.0, kept all s (says_contrary z d.0) d.1))
+    (λ z d. ⊎_elim (λ there. (d.0, there))
+    (λ (e : says_contrary x y ≡ says_contrary z d.0). subst P (ap first_atom e) (h.marked x again.earlier))
+    (Contains-push_cases all s (says_contrary z d.0) d.1)))
+opposed_next all x y line old new h wide (inr first) =
+    let s : Said = says_contrary x y in
+    let P : ℕ → Type 0 = λ z. (w : ℕ) × Contains all (says_contrary z w) in
+    let Q : ℕ → Type 0 = λ z. (w : ℕ) × Contains (all ++ s ∷ []) (says_contrary z w) in
+    subst (λ ms. AreMarked ms Q) (sym first.opposed)
+    (marks_more old.opposed.items x P Q h wide (y, newest all s) (λ z d. (d.0, kept all s (says_contrary z d.0) d.1))
+    (λ z d. ⊎_elim (λ there. inl (d.0, there))
+    (λ (e : says_contrary x y ≡ says_contrary z d.0). inr (sym (ap first_atom e)))
+    (Contains-push_cases all s (says_contrary z d.0) d.1)))
 
-contrary_new : (count : ℕ) (all : List Said) (x y line : ℕ) (old new : LineParts) → IsSaidIn count all old
-    → IsAtom count x → 1 ≤ y → IsNewContrary x y line old new → IsSaidIn count (all ++ says_contrary x y ∷ []) new
-contrary_new count all x y line old new h atom low a =
-    let s : Said = says_contrary x y in
-    let high = atom.high in
-    let wide_is = h.wide.contrary in
-    let wide : x < length old.contrary.items = omega arith in
-    let here : get_or (set old.contrary.items x y) x 0 ≡ y = get_or-set_same old.contrary.items x y 0 wide in
-    let cs = contraries_in count all old h in
-    said_in_lists count (all ++ s ∷ []) new old.assumed.items old.heading.items (set old.contrary.items x y)
-    old.assumptions.items old.heads.items old.bodies.items a.assumed a.heading a.contrary a.assumptions
-    a.heads a.bodies h.wide.assumed h.wide.heading (length-set old.contrary.items x y ∙ h.wide.contrary)
-    (assumed_kept all s old.assumed.items (λ e. omega arith) h.assumed)
-    (heading_kept all s old.heading.items (λ e. omega arith) h.heading)
-    (record {
-      some = λ z given. ⊎_elim
-          (λ (e : z ≡ x). subst (λ n. Contains (all ++ s ∷ [])
-          (says_contrary n (get_or (set old.contrary.items x y) n 0)))
-          (sym e) (subst (λ m. Contains (all ++ s ∷ []) (says_contrary x m)) (sym here) (newest all s)))
-          (λ ne.
-          let there = get_or-set_other old.contrary.items x z y 0 ne in
-          subst (λ m. Contains (all ++ s ∷ []) (says_contrary z m)) (sym there)
-          (kept all s (says_contrary z (get_or old.contrary.items z 0))
-          (cs.some z (λ none. given (there ∙ none)))))
-          (cases_eq z x);
-      every = λ z w d. ⊎_elim
-          (λ there. ⊎_elim
-          (λ (e : z ≡ x).
-          let none = a.fresh in
-          let is : get_or old.contrary.items x 0 ≡ w = sym (ap (λ n. get_or old.contrary.items n 0) e) ∙ cs.every z w
-          there in
-          let low = cs.low z w there in
-          absurd (omega arith))
-          (λ ne. get_or-set_other old.contrary.items x z y 0 ne ∙ cs.every z w there)
-          (cases_eq z x))
-          (λ (e : says_contrary x y ≡ says_contrary z w).
-          sym (ap (λ n. get_or (set old.contrary.items x y) n 0) (ap first_atom e)) ∙ here ∙ ap second_atom e)
-          (Contains-push_cases all s (says_contrary z w) d);
-      low = λ z w d. ⊎_elim (λ there. cs.low z w there)
-          (λ (e : says_contrary x y ≡ says_contrary z w). subst (λ n. 1 ≤ n) (ap second_atom e) low)
-          (Contains-push_cases all s (says_contrary z w) d);
-    })
-    (assumptions_kept all s old.assumptions.items (λ e. omega arith) (assumptions_in count all old h))
-    (rules_kept all s old.heads.items old.bodies.items refl h.rules)
+opposed_long : (x line : ℕ) (old new : LineParts) → IsOpposedAgain x old new ⊎ IsFirstOpposed x line old new
+    → length new.opposed.items ≡ length old.opposed.items
+opposed_long x line old new (inl again) = ap length again.opposed
+opposed_long x line old new (inr first) = ap length first.opposed ∙ length-set old.opposed.items x true
 
 contrary_next : (count : ℕ) (all : List Said) (x y line : ℕ) (old new : LineParts) → IsSaidIn count all old
-    → IsAtom count x → IsAtom count y → AddsContrary x y line old new → IsSaidIn count (all ++ says_contrary x y ∷ [])
-    new
-contrary_next count all x y line old new h atom atom' a = ⊎_elim
-    (λ (same : (get_or old.contrary.items x 0 ≡ y) × (new ≡ old)).
-    subst (λ p. IsSaidIn count (all ++ says_contrary x y ∷ []) p) (sym same.1)
-    (contrary_again count all x y old h same.0 atom'.low))
-    (λ fresh. contrary_new count all x y line old new h atom atom'.low fresh) a
+    → IsAtom count x → AddsContrary x y line old new → IsSaidIn count (all ++ says_contrary x y ∷ []) new
+contrary_next count all x y line old new h atom a =
+    let s : Said = says_contrary x y in
+    let high = atom.high in
+    let wide_is = h.wide.opposed in
+    let wide : x < length old.opposed.items = omega arith in
+    said_in_lists count (all ++ s ∷ []) new old.assumed.items old.heading.items new.opposed.items
+    old.assumptions.items old.heads.items (old.contraries.items ++ (x, y) ∷ []) old.bodies.items a.assumed a.heading
+    refl a.assumptions a.contraries a.heads a.bodies h.wide.assumed h.wide.heading
+    (opposed_long x line old new a.marked ∙ wide_is)
+    (assumed_kept all s old.assumed.items (λ e. omega arith) h.assumed)
+    (heading_kept all s old.heading.items (λ e. omega arith) h.heading)
+    (opposed_next all x y line old new h.opposed wide a.marked)
+    (assumptions_kept all s old.assumptions.items (λ e. omega arith) (assumptions_in count all old h))
+    (ap (λ cs. cs ++ (x, y) ∷ []) h.contraries ∙ sym (contraries_said-append all (s ∷ [])))
+    (rules_kept all s old.heads.items old.bodies.items refl h.rules)
 
 contrary_consistent : (count : ℕ) (all : List Said) (x y line : ℕ) (old new : LineParts) → IsSaidIn count all old
-    → IsAtom count y → AddsContrary x y line old new → AreConsistent all → AreConsistent (all ++ says_contrary x y ∷ [])
-contrary_consistent count all x y line old new h atom a ok =
+    → AddsContrary x y line old new → AreConsistent all → AreConsistent (all ++ says_contrary x y ∷ [])
+contrary_consistent count all x y line old new h a ok =
     let s : Said = says_contrary x y in
-    let rules : rules_said (all ++ s ∷ []) ≡ rules_said all
-    = rules_said-append all (s ∷ []) ∙ append-nil (rules_said all) in
-    let given : (z w : ℕ) → Contains all (says_contrary z w) → z ≡ x → w ≡ y = λ z w c e.
-    elim a [
-      | inl same ↦ sym (h.contraries_all z w c) ∙ ap (λ n. get_or old.contrary.items n 0) e ∙ same.0
-      | inr fresh ↦
-          let none = fresh.fresh in
-          let is = sym (h.contraries_all z w c) ∙ ap (λ n. get_or old.contrary.items n 0) e ∙ none in
-          let low = h.contraries_low z w c in
-          absurd (omega arith)
-    ] in
+    let few = ok.few in
+    let room = a.few in
+    let long : length old.contraries.items ≡ length (contraries_said all) = ap length h.contraries in
+    let longer : length (contraries_said (all ++ s ∷ [])) ≡ length (contraries_said all) + 1
+    = ap length (contraries_said-append all (s ∷ [])) ∙ length-append (contraries_said all) ((x, y) ∷ []) in
     record {
-      few = let few = ok.few in subst (λ rs. length rs ≤ MAX_RULE_LINES) (sym rules) few;
+      few = subst (λ rs. length rs ≤ MAX_RULE_LINES) (sym (rules_stay all s refl)) few;
+      few_contraries = omega arith;
       flat = λ z body c d. ok.flat z body
           (still all s (says_assumption z) (other_kind s (says_assumption z) (λ e. omega arith)) c)
           (still all s (says_rule z body) (other_kind s (says_rule z body) (λ e. omega arith)) d);
-      one_contrary = λ z w v c d. ⊎_elim
-          (λ there. ⊎_elim (λ there'. ok.one_contrary z w v there there')
-          (λ (e : s ≡ says_contrary z v). given z w there (sym (ap first_atom e)) ∙ ap second_atom e)
-          (Contains-push_cases all s (says_contrary z v) d))
-          (λ (e : s ≡ says_contrary z w). ⊎_elim
-          (λ there'. sym (ap second_atom e) ∙ sym (given z v there' (sym (ap first_atom e))))
-          (λ (e' : s ≡ says_contrary z v). sym (ap second_atom e) ∙ ap second_atom e')
-          (Contains-push_cases all s (says_contrary z v) d))
-          (Contains-push_cases all s (says_contrary z w) c);
     }
 
 -- ---- a rule more
@@ -452,10 +408,11 @@ rule_next count all head body old new h atom a =
     let high = atom.high in
     let wide_is = h.wide.heading in
     let wide : head < length old.heading.items = omega arith in
-    said_in_lists count (all ++ s ∷ []) new old.assumed.items (set old.heading.items head true) old.contrary.items
-    old.assumptions.items (old.heads.items ++ head ∷ [])
-    (old.bodies.items ++ map (λ y. (length old.heads.items, y)) body) a.assumed a.heading a.contrary a.assumptions
-    a.heads a.bodies h.wide.assumed (length-set old.heading.items head true ∙ h.wide.heading) h.wide.contrary
+    said_in_lists count (all ++ s ∷ []) new old.assumed.items (set old.heading.items head true) old.opposed.items
+    old.assumptions.items (old.heads.items ++ head ∷ []) old.contraries.items
+    (old.bodies.items ++ map (λ y. (length old.heads.items, y)) body) a.assumed a.heading a.opposed a.assumptions
+    a.contraries a.heads a.bodies h.wide.assumed (length-set old.heading.items head true ∙ h.wide.heading)
+    h.wide.opposed
     (assumed_kept all s old.assumed.items (λ e. omega arith) h.assumed)
     (marks_more old.heading.items head (λ z. (b : List ℕ) × Contains all (says_rule z b))
     (λ z. (b : List ℕ) × Contains (all ++ s ∷ []) (says_rule z b)) h.heading wide (body, newest all s)
@@ -463,8 +420,9 @@ rule_next count all head body old new h atom a =
     (λ z d. ⊎_elim (λ there. inl (d.0, there))
     (λ (e : says_rule head body ≡ says_rule z d.0). inr (sym (ap first_atom e)))
     (Contains-push_cases all s (says_rule z d.0) d.1)))
-    (contrary_kept all s old.contrary.items (λ e. omega arith) (contraries_in count all old h))
+    (opposed_kept all s old.opposed.items (λ e. omega arith) h.opposed)
     (assumptions_kept all s old.assumptions.items (λ e. omega arith) (assumptions_in count all old h))
+    (h.contraries ∙ sym (contraries_stay all s refl))
     (subst (λ rs. AreRulesIn rs (old.heads.items ++ head ∷ [])
     (old.bodies.items ++ map (λ y. (length old.heads.items, y)) body)) (sym (rules_said-append all (s ∷ [])))
     (rules_more (rules_said all) old.heads.items old.bodies.items head body h.rules))
@@ -479,8 +437,10 @@ rule_consistent count all head body old new h a ok =
     = ap length h.rules.heads_are ∙ length-map (rules_said all) (λ r. r.0) in
     let rules : length (rules_said (all ++ s ∷ [])) ≡ length (rules_said all) + 1
     = ap length (rules_said-append all (s ∷ [])) ∙ length-append (rules_said all) ((head, body) ∷ []) in
+    let few' = ok.few_contraries in
     record {
       few = omega arith;
+      few_contraries = subst (λ cs. length cs ≤ MAX_CONTRARY_LINES) (sym (contraries_stay all s refl)) few';
       flat = λ z b c d.
           let assumed = still all s (says_assumption z) (other_kind s (says_assumption z) (λ e. omega arith)) c in
           ⊎_elim (λ there. ok.flat z b assumed there)
@@ -489,9 +449,6 @@ rule_consistent count all head body old new h a ok =
           = h.assumed.all head (subst (λ n. Contains all (says_assumption n)) (sym (ap first_atom e)) assumed) in
           let bad : true ≡ false = sym marked ∙ a.flat in cc)
           (Contains-push_cases all s (says_rule z b) d);
-      one_contrary = λ z w v c d. ok.one_contrary z w v
-          (still all s (says_contrary z w) (other_kind s (says_contrary z w) (λ e. omega arith)) c)
-          (still all s (says_contrary z v) (other_kind s (says_contrary z v) (λ e. omega arith)) d);
     }
 
 -- ---- one thing more
@@ -502,7 +459,7 @@ pub taken : (count : ℕ) (all : List Said) (s : Said) (line : ℕ) (old new : L
 taken count all (says_assumption x) line old new h atoms a =
     assumption_next count all x old new h (atoms x (0, omega arith, refl)) a
 taken count all (says_contrary x y) line old new h atoms a =
-    contrary_next count all x y line old new h (atoms x (0, omega arith, refl)) (atoms y (1, omega arith, refl)) a
+    contrary_next count all x y line old new h (atoms x (0, omega arith, refl)) a
 taken count all (says_rule head body) line old new h atoms a =
     rule_next count all head body old new h (atoms head (0, omega arith, refl)) a
 
@@ -512,7 +469,7 @@ pub consistent : (count : ℕ) (all : List Said) (s : Said) (line : ℕ) (old ne
 consistent count all (says_assumption x) line old new h atoms a ok =
     assumption_consistent count all x old h a.flat ok
 consistent count all (says_contrary x y) line old new h atoms a ok =
-    contrary_consistent count all x y line old new h (atoms y (1, omega arith, refl)) a ok
+    contrary_consistent count all x y line old new h a ok
 consistent count all (says_rule head body) line old new h atoms a ok =
     rule_consistent count all head body old new h a ok
 
@@ -526,8 +483,8 @@ wide_for count line s parts h says =
     let high = atom.high in
     let e1 = h.assumed in
     let e2 = h.heading in
-    let e3 = h.contrary in
-    record { assumed = omega arith; heading = omega arith; contrary = omega arith }
+    let e3 = h.opposed in
+    record { assumed = omega arith; heading = omega arith; opposed = omega arith }
   where
     first_within : (s : Said) → SaysLine count line s → IsAtom count (first_atom s)
     first_within (says_assumption x) says = atoms_within count line (says_assumption x) says x (0, omega arith, refl)

@@ -1,12 +1,11 @@
 -- A text that was written reads as the framework that it was written of.
-use Rattle.std.proofs.Common.{◌≡◌, ℕ, zero, suc, ◌+◌, ◌*◌, ◌<◌, ◌≤◌, ◌==◌, true, false, not, List, [], ◌∷◌, ◌++◌, length, take, drop, get_or, map, filter, refl, sym, ap, subst, ◌∙◌, ◌⊎◌, inl, inr, ⊎_elim, cond, arith}
+use Rattle.std.proofs.Common.{◌≡◌, ℕ, zero, suc, ◌+◌, ◌<◌, ◌≤◌, ◌==◌, false, not, List, [], ◌∷◌, ◌++◌, length, take, get_or, map, filter, refl, sym, ap, subst, ◌∙◌, ◌⊎◌, inl, inr, ⊎_elim, arith}
 use Rattle.std.specs.Prelude.{Contains, codes, All}
-use Rattle.std.specs.List.{AllZip, flat_map, range_with_len}
-use Rattle.std.specs.List.Sorted.{IsStrictlyIncreasing}
+use Rattle.std.specs.List.{AllZip, flat_map}
 use Rattle.std.specs.Fmt.{decimal}
-use Rattle.std.proofs.lemmas.Bool.{cases_eq, cond-true, cond-false, eq-eqb, ne_eqb}
+use Rattle.std.proofs.lemmas.Bool.{cond-true}
 use Rattle.std.proofs.lemmas.Grind.{flat_map-append}
-use Rattle.std.proofs.lemmas.List.{length-append, length-map, append_assoc, append-nil, flat_map_more, take_more}
+use Rattle.std.proofs.lemmas.List.{length-map, append_assoc, append-nil, flat_map_more, take_more}
 use Rattle.std.proofs.lemmas.List.Elements.{All-nil, All-cons, All-head, All-tail, All-append, Contains-append_left, Contains-append_right, Contains-append_cases, Contains-get_or}
 use Rattle.std.proofs.lemmas.List.Splits.{slice_split_none, slice_split_at}
 use Rattle.num_text.specs.Cuts.{LineText, is_line_end, is_blank, field_texts, lines_from, lines_of}
@@ -17,14 +16,14 @@ use Rattle.num_text.proofs.DigitFields.{no_blanks, not_empty, no_ends}
 use Rattle.num_text.proofs.CutLemmas.{lines_from-nil}
 use Rattle.num_text.proofs.KeptLines.{kept-nil, kept-keeps}
 use Rattle.lists.proofs.Membership.{Contains-head, Contains-tail, Contains-cons_cases}
-use Rattle.set_lists.proofs.Rising.{below_across, rises_right}
 use Rattle.af_format.proofs.RoundTrip.{line_at, first_line_is}
 use Rattle.semantics.specs.Rules.{Rule}
 use Rattle.semantics.specs.AbaFrameworks.{Aba, IsAtom, IsNumberedAba}
 use Rattle.aba_notions.specs.Solid.{IsSolid}
-use Rattle.aba_format.specs.AbaText.{Said, says_assumption, says_contrary, says_rule, keyword, atoms_of, SpellsAtom, SaysLine, rules_said, AreConsistent, AreLines, IsRuleSaid, IsContrarySaid, IsFrameworkOf, ReadsAs}
+use Rattle.aba_format.specs.AbaText.{Said, says_assumption, says_contrary, says_rule, keyword, atoms_of, SpellsAtom, SaysLine, contraries_said, rules_said, AreConsistent, IsRuleSaid, IsFrameworkOf, ReadsAs}
 use Rattle.aba_format.specs.Written.{header_line, spaced, said_line, assumption_line, contrary_line, rule_line, aba_text}
-use Rattle.aba_format.proofs.SaysLemmas.{rules_said-append}
+use Rattle.aba_format.specs.declared.said.TheConstants.{MAX_CONTRARY_LINES}
+use Rattle.aba_format.proofs.SaysLemmas.{contraries_said-append, rules_said-append}
 use Rattle.aba_format.proofs.TakenLemmas.{kind, first_atom, second_atom}
 use Rattle.lists.proofs.Images.{image_there, image_from}
 
@@ -127,36 +126,22 @@ said_lines count number start (s ∷ ss) small atoms =
 
 -- ---- what the text of a framework says
 
--- the contraries but 0
-abbrev pub contraries_said : List (ℕ × ℕ) → List Said
-contraries_said [] = []
-contraries_said (p ∷ ps) = cond (p.1 == 0) (contraries_said ps) (says_contrary p.0 p.1 ∷ contraries_said ps)
+abbrev pub contrary_said : ℕ × ℕ → Said
+contrary_said p = says_contrary p.0 p.1
 
 abbrev pub rule_said : Rule → Said
 rule_said r = says_rule r.head r.body
 
 abbrev pub said_of : Aba → List Said
-said_of f = map says_assumption f.assumptions ++ (contraries_said f.contraries ++ map rule_said f.rules)
+said_of f = map says_assumption f.assumptions ++ (map contrary_said f.contraries ++ map rule_said f.rules)
 
 assumptions_text : (xs : List ℕ) → flat_map assumption_line xs ≡ flat_map said_line (map says_assumption xs)
 assumptions_text [] = refl
 assumptions_text (x ∷ xs) = ap (λ rest. assumption_line x ++ rest) (assumptions_text xs)
 
-contraries_text : (ps : List (ℕ × ℕ)) → flat_map contrary_line ps ≡ flat_map said_line (contraries_said ps)
+contraries_text : (ps : List (ℕ × ℕ)) → flat_map contrary_line ps ≡ flat_map said_line (map contrary_said ps)
 contraries_text [] = refl
-contraries_text (p ∷ ps) = elim (cases_eq p.1 0) [
-  | inl none ↦
-      ap (λ line. line ++ flat_map contrary_line ps) (cond-true _ [] (said_line (says_contrary p.0 p.1)) (eq-eqb p.1 0 none))
-      ∙ contraries_text ps
-      ∙ ap (flat_map said_line) (sym (cond-true _ (contraries_said ps) (says_contrary p.0 p.1 ∷ contraries_said ps)
-      (eq-eqb p.1 0 none)))
-  | inr some ↦
-      ap (λ line. line ++ flat_map contrary_line ps)
-      (cond-false _ [] (said_line (says_contrary p.0 p.1)) (ne_eqb p.1 0 some))
-      ∙ ap (λ rest. said_line (says_contrary p.0 p.1) ++ rest) (contraries_text ps)
-      ∙ ap (flat_map said_line) (sym (cond-false _ (contraries_said ps) (says_contrary p.0 p.1 ∷ contraries_said ps)
-      (ne_eqb p.1 0 some)))
-]
+contraries_text (p ∷ ps) = ap (λ rest. contrary_line p ++ rest) (contraries_text ps)
 
 rules_text : (rs : List Rule) → flat_map rule_line rs ≡ flat_map said_line (map rule_said rs)
 rules_text [] = refl
@@ -168,72 +153,40 @@ aba_text-said f = ap (λ rest. header_line f.atoms ++ rest)
     ∙ ap (λ t. flat_map said_line (map says_assumption f.assumptions) ++ (t ++ flat_map rule_line f.rules))
     (contraries_text f.contraries)
     ∙ ap (λ t. flat_map said_line (map says_assumption f.assumptions)
-    ++ (flat_map said_line (contraries_said f.contraries) ++ t)) (rules_text f.rules)
+    ++ (flat_map said_line (map contrary_said f.contraries) ++ t)) (rules_text f.rules)
     ∙ ap (λ t. flat_map said_line (map says_assumption f.assumptions) ++ t)
-    (sym (flat_map-append said_line (contraries_said f.contraries) (map rule_said f.rules)))
+    (sym (flat_map-append said_line (map contrary_said f.contraries) (map rule_said f.rules)))
     ∙ sym (flat_map-append said_line (map says_assumption f.assumptions)
-    (contraries_said f.contraries ++ map rule_said f.rules)))
+    (map contrary_said f.contraries ++ map rule_said f.rules)))
 
 -- ---- the members of what is said
-
-contraries_from : (ps : List (ℕ × ℕ)) (s : Said) → Contains (contraries_said ps) s
-    → (p : ℕ × ℕ) × Contains ps p × (p.1 ≡ 0 → ⊥) × (says_contrary p.0 p.1 ≡ s)
-contraries_from [] s c = absurd (omega (arith, c.1))
-contraries_from (p ∷ ps) s c = elim (cases_eq p.1 0) [
-  | inl none ↦
-      let more = contraries_from ps s (subst (λ ss. Contains ss s)
-      (cond-true _ (contraries_said ps) (says_contrary p.0 p.1 ∷ contraries_said ps) (eq-eqb p.1 0 none)) c) in
-      (more.0, Contains-tail p ps more.0 more.1, more.2, more.3)
-  | inr some ↦ ⊎_elim (λ e. (p, Contains-head p ps p refl, some, e))
-      (λ d. let more = contraries_from ps s d in (more.0, Contains-tail p ps more.0 more.1, more.2, more.3))
-      (Contains-cons_cases (says_contrary p.0 p.1) (contraries_said ps) s (subst (λ ss. Contains ss s)
-      (cond-false _ (contraries_said ps) (says_contrary p.0 p.1 ∷ contraries_said ps) (ne_eqb p.1 0 some)) c))
-]
-
-contraries_there : (ps : List (ℕ × ℕ)) (p : ℕ × ℕ) → Contains ps p → (p.1 ≡ 0 → ⊥)
-    → Contains (contraries_said ps) (says_contrary p.0 p.1)
-contraries_there [] p c some = absurd (omega (arith, c.1))
-contraries_there (q ∷ qs) p c some = elim (cases_eq q.1 0) [
-  | inl none ↦ subst (λ ss. Contains ss (says_contrary p.0 p.1))
-      (sym (cond-true _ (contraries_said qs) (says_contrary q.0 q.1 ∷ contraries_said qs) (eq-eqb q.1 0 none)))
-      (⊎_elim (λ (e : q ≡ p). absurd (some (sym (ap (λ (r : ℕ × ℕ). r.1) e) ∙ none))) (λ d. contraries_there qs p d some)
-      (Contains-cons_cases q qs p c))
-  | inr some' ↦ subst (λ ss. Contains ss (says_contrary p.0 p.1))
-      (sym (cond-false _ (contraries_said qs) (says_contrary q.0 q.1 ∷ contraries_said qs) (ne_eqb q.1 0 some')))
-      (⊎_elim
-      (λ (e : q ≡ p). Contains-head (says_contrary q.0 q.1) (contraries_said qs) (says_contrary p.0 p.1)
-      (ap (λ (r : ℕ × ℕ). says_contrary r.0 r.1) e))
-      (λ d. Contains-tail (says_contrary q.0 q.1) (contraries_said qs) (says_contrary p.0 p.1)
-      (contraries_there qs p d some)) (Contains-cons_cases q qs p c))
-]
 
 -- what is said is an assumption, a contrary or a rule of the framework
 data IsOf (f : Aba) (s : Said) : Type 0 where
   of_assumption : (x : ℕ) → Contains f.assumptions x → says_assumption x ≡ s → IsOf f s
-  of_contrary : (p : ℕ × ℕ) → Contains f.contraries p → (p.1 ≡ 0 → ⊥) → says_contrary p.0 p.1 ≡ s → IsOf f s
+  of_contrary : (p : ℕ × ℕ) → Contains f.contraries p → contrary_said p ≡ s → IsOf f s
   of_rule : (r : Rule) → Contains f.rules r → rule_said r ≡ s → IsOf f s
 
 said_from : (f : Aba) (s : Said) → Contains (said_of f) s → IsOf f s
 said_from f s c = ⊎_elim
     (λ a. let from = image_from says_assumption f.assumptions s a in of_assumption from.0 from.1 from.2)
     (λ d. ⊎_elim
-    (λ b. let from = contraries_from f.contraries s b in of_contrary from.0 from.1 from.2 from.3)
+    (λ b. let from = image_from contrary_said f.contraries s b in of_contrary from.0 from.1 from.2)
     (λ r. let from = image_from rule_said f.rules s r in of_rule from.0 from.1 from.2)
-    (Contains-append_cases (contraries_said f.contraries) (map rule_said f.rules) s d))
+    (Contains-append_cases (map contrary_said f.contraries) (map rule_said f.rules) s d))
     (Contains-append_cases (map says_assumption f.assumptions)
-    (contraries_said f.contraries ++ map rule_said f.rules) s c)
+    (map contrary_said f.contraries ++ map rule_said f.rules) s c)
 
 assumption_said : (f : Aba) (x : ℕ) → Contains f.assumptions x → Contains (said_of f) (says_assumption x)
 assumption_said f x c = Contains-append_left (map says_assumption f.assumptions)
-    (contraries_said f.contraries ++ map rule_said f.rules) (says_assumption x)
+    (map contrary_said f.contraries ++ map rule_said f.rules) (says_assumption x)
     (image_there says_assumption f.assumptions x c)
 
-contrary_said : (f : Aba) (p : ℕ × ℕ) → Contains f.contraries p → (p.1 ≡ 0 → ⊥)
-    → Contains (said_of f) (says_contrary p.0 p.1)
-contrary_said f p c some = Contains-append_right (map says_assumption f.assumptions)
-    (contraries_said f.contraries ++ map rule_said f.rules) (says_contrary p.0 p.1)
-    (Contains-append_left (contraries_said f.contraries) (map rule_said f.rules) (says_contrary p.0 p.1)
-    (contraries_there f.contraries p c some))
+pair_said : (f : Aba) (p : ℕ × ℕ) → Contains f.contraries p → Contains (said_of f) (contrary_said p)
+pair_said f p c = Contains-append_right (map says_assumption f.assumptions)
+    (map contrary_said f.contraries ++ map rule_said f.rules) (contrary_said p)
+    (Contains-append_left (map contrary_said f.contraries) (map rule_said f.rules) (contrary_said p)
+    (image_there contrary_said f.contraries p c))
 
 kinds_apart : (s t u : Said) → s ≡ u → t ≡ u → (kind s ≡ kind t → ⊥) → ⊥
 kinds_apart s t u e f ne = ne (ap kind (e ∙ sym f))
@@ -243,23 +196,21 @@ assumption_from f x c = from_it (said_from f (says_assumption x) c)
   where
     from_it : IsOf f (says_assumption x) → Contains f.assumptions x
     from_it (of_assumption y d e) = subst (Contains f.assumptions) (ap first_atom e) d
-    from_it (of_contrary p d some e) = absurd (kinds_apart (says_contrary p.0 p.1) (says_assumption x) (says_assumption x)
+    from_it (of_contrary p d e) = absurd (kinds_apart (contrary_said p) (says_assumption x) (says_assumption x)
         e refl (λ z. omega arith))
     from_it (of_rule r d e) = absurd (kinds_apart (rule_said r) (says_assumption x) (says_assumption x) e refl
         (λ z. omega arith))
 
-contrary_from : (f : Aba) (a c : ℕ) → Contains (said_of f) (says_contrary a c) → Contains f.contraries (a, c) × (c ≡ 0 → ⊥)
+contrary_from : (f : Aba) (a c : ℕ) → Contains (said_of f) (says_contrary a c) → Contains f.contraries (a, c)
 contrary_from f a c there = from_it (said_from f (says_contrary a c) there)
   where
-    from_it : IsOf f (says_contrary a c) → Contains f.contraries (a, c) × (c ≡ 0 → ⊥)
+    from_it : IsOf f (says_contrary a c) → Contains f.contraries (a, c)
     from_it (of_assumption y d e) = absurd (kinds_apart (says_assumption y) (says_contrary a c) (says_contrary a c) e refl
         (λ z. omega arith))
-    from_it (of_contrary p d some e) =
+    from_it (of_contrary p d e) =
         let first : p.0 ≡ a = ap first_atom e in
-        let second : p.1 ≡ c = ap second_atom e in (
-          subst (Contains f.contraries) (ap (λ n. (n, p.1)) first ∙ ap (λ n. (a, n)) second) d,
-          λ z. some (second ∙ z),
-        )
+        let second : p.1 ≡ c = ap second_atom e in
+        subst (Contains f.contraries) (ap (λ n. (n, p.1)) first ∙ ap (λ n. (a, n)) second) d
     from_it (of_rule r d e) = absurd (kinds_apart (rule_said r) (says_contrary a c) (says_contrary a c) e refl
         (λ z. omega arith))
 
@@ -270,53 +221,19 @@ rule_from f h body there = from_it (said_from f (says_rule h body) there)
     from_it : IsOf f (says_rule h body) → (r : Rule) × Contains f.rules r × (r.head ≡ h)
     from_it (of_assumption y d e) = absurd (kinds_apart (says_assumption y) (says_rule h body) (says_rule h body) e refl
         (λ z. omega arith))
-    from_it (of_contrary p d some e) = absurd (kinds_apart (says_contrary p.0 p.1) (says_rule h body) (says_rule h body)
+    from_it (of_contrary p d e) = absurd (kinds_apart (contrary_said p) (says_rule h body) (says_rule h body)
         e refl (λ z. omega arith))
     from_it (of_rule r d e) = (r, d, ap first_atom e)
 
 -- ---- the framework is the one that is said
 
-firsts_unique : (ps : List (ℕ × ℕ)) → IsStrictlyIncreasing (map (λ (p : ℕ × ℕ). p.0) ps) → (a c d : ℕ)
-    → Contains ps (a, c) → Contains ps (a, d) → c ≡ d
-firsts_unique [] up a c d h k = absurd (omega (arith, h.1))
-firsts_unique (p ∷ ps) up a c d h k =
-    let firsts : List ℕ = map (λ (q : ℕ × ℕ). q.0) ps in
-    let below : (e : ℕ) → Contains ps (a, e) → p.0 < a = λ e t.
-    below_across (p.0 ∷ []) firsts up p.0 a (Contains-head p.0 [] p.0 refl)
-    (image_there (λ (q : ℕ × ℕ). q.0) ps (a, e) t) in
-    ⊎_elim
-    (λ (e : p ≡ (a, c)). ⊎_elim (λ (e' : p ≡ (a, d)). sym (ap (λ (q : ℕ × ℕ). q.1) e) ∙ ap (λ (q : ℕ × ℕ). q.1) e')
-    (λ t. let first = ap (λ (q : ℕ × ℕ). q.0) e in let lt = below d t in absurd (omega arith))
-    (Contains-cons_cases p ps (a, d) k))
-    (λ t. ⊎_elim (λ (e' : p ≡ (a, d)). let first = ap (λ (q : ℕ × ℕ). q.0) e' in let lt = below c t in absurd (omega arith))
-    (λ t'. firsts_unique ps (rises_right (p.0 ∷ []) firsts up) a c d t t') (Contains-cons_cases p ps (a, d) k))
-    (Contains-cons_cases p ps (a, c) h)
-
-contrary_there : (f : Aba) → map (λ (p : ℕ × ℕ). p.0) f.contraries ≡ f.assumptions → (a : ℕ) → Contains f.assumptions a
-    → (c : ℕ) × Contains f.contraries (a, c)
-contrary_there f e a there =
-    let from = image_from (λ (p : ℕ × ℕ). p.0) f.contraries a (subst (λ xs. Contains xs a) (sym e) there) in
-    (from.0.1, subst (Contains f.contraries) (ap (λ n. (n, from.0.1)) from.2) from.1)
-
-assumption_of : (f : Aba) → map (λ (p : ℕ × ℕ). p.0) f.contraries ≡ f.assumptions → (a c : ℕ)
-    → Contains f.contraries (a, c) → Contains f.assumptions a
-assumption_of f e a c there =
-    subst (λ xs. Contains xs a) e (image_there (λ (p : ℕ × ℕ). p.0) f.contraries (a, c) there)
-
 no_rules : (xs : List ℕ) → rules_said (map says_assumption xs) ≡ []
 no_rules [] = refl
 no_rules (x ∷ xs) = no_rules xs
 
-no_rules_either : (ps : List (ℕ × ℕ)) → rules_said (contraries_said ps) ≡ []
+no_rules_either : (ps : List (ℕ × ℕ)) → rules_said (map contrary_said ps) ≡ []
 no_rules_either [] = refl
-no_rules_either (p ∷ ps) = elim (cases_eq p.1 0) [
-  | inl none ↦
-      ap rules_said (cond-true _ (contraries_said ps) (says_contrary p.0 p.1 ∷ contraries_said ps) (eq-eqb p.1 0 none))
-      ∙ no_rules_either ps
-  | inr some ↦
-      ap rules_said (cond-false _ (contraries_said ps) (says_contrary p.0 p.1 ∷ contraries_said ps) (ne_eqb p.1 0 some))
-      ∙ no_rules_either ps
-]
+no_rules_either (p ∷ ps) = no_rules_either ps
 
 rules_of_rules : (rs : List Rule) → rules_said (map rule_said rs) ≡ map (λ (r : Rule). (r.head, r.body)) rs
 rules_of_rules [] = refl
@@ -324,61 +241,63 @@ rules_of_rules (r ∷ rs) = ap (λ more. (r.head, r.body) ∷ more) (rules_of_ru
 
 rules_in_said : (f : Aba) → rules_said (said_of f) ≡ map (λ (r : Rule). (r.head, r.body)) f.rules
 rules_in_said f =
-    rules_said-append (map says_assumption f.assumptions) (contraries_said f.contraries ++ map rule_said f.rules)
-    ∙ ap (λ rs. rs ++ rules_said (contraries_said f.contraries ++ map rule_said f.rules)) (no_rules f.assumptions)
-    ∙ rules_said-append (contraries_said f.contraries) (map rule_said f.rules)
+    rules_said-append (map says_assumption f.assumptions) (map contrary_said f.contraries ++ map rule_said f.rules)
+    ∙ ap (λ rs. rs ++ rules_said (map contrary_said f.contraries ++ map rule_said f.rules)) (no_rules f.assumptions)
+    ∙ rules_said-append (map contrary_said f.contraries) (map rule_said f.rules)
     ∙ ap (λ rs. rs ++ rules_said (map rule_said f.rules)) (no_rules_either f.contraries)
     ∙ rules_of_rules f.rules
+
+no_contraries : (xs : List ℕ) → contraries_said (map says_assumption xs) ≡ []
+no_contraries [] = refl
+no_contraries (x ∷ xs) = no_contraries xs
+
+contraries_of_contraries : (ps : List (ℕ × ℕ)) → contraries_said (map contrary_said ps) ≡ ps
+contraries_of_contraries [] = refl
+contraries_of_contraries (p ∷ ps) = ap (λ more. p ∷ more) (contraries_of_contraries ps)
+
+no_contraries_either : (rs : List Rule) → contraries_said (map rule_said rs) ≡ []
+no_contraries_either [] = refl
+no_contraries_either (r ∷ rs) = no_contraries_either rs
+
+contraries_in_said : (f : Aba) → contraries_said (said_of f) ≡ f.contraries
+contraries_in_said f =
+    contraries_said-append (map says_assumption f.assumptions) (map contrary_said f.contraries ++ map rule_said f.rules)
+    ∙ ap (λ ps. ps ++ contraries_said (map contrary_said f.contraries ++ map rule_said f.rules))
+    (no_contraries f.assumptions)
+    ∙ contraries_said-append (map contrary_said f.contraries) (map rule_said f.rules)
+    ∙ ap (λ ps. ps ++ contraries_said (map rule_said f.rules)) (contraries_of_contraries f.contraries)
+    ∙ ap (λ ps. f.contraries ++ ps) (no_contraries_either f.rules)
+    ∙ append-nil f.contraries
 
 rules_zipped : (rs : List Rule) → AllZip IsRuleSaid (map (λ (r : Rule). (r.head, r.body)) rs) rs
 rules_zipped [] = tt
 rules_zipped (r ∷ rs) = (record { head_is = refl; body_is = λ y. (λ c. c, λ c. c) }, rules_zipped rs)
 
-consistent_of : (f : Aba) → IsNumberedAba f → IsSolid f → AreConsistent (said_of f)
-consistent_of f h solid =
-    let up : IsStrictlyIncreasing (map (λ (p : ℕ × ℕ). p.0) f.contraries)
-    = subst IsStrictlyIncreasing (sym h.form.one_contrary) h.form.assumptions_rise in
+consistent_of : (f : Aba) → IsNumberedAba f → IsSolid f → length f.contraries ≤ MAX_CONTRARY_LINES
+    → AreConsistent (said_of f)
+consistent_of f h solid room =
     let few = h.rules in
     let next = solid.next_is in
     let long : length (rules_said (said_of f)) ≡ length f.rules
     = ap length (rules_in_said f) ∙ length-map f.rules (λ (r : Rule). (r.head, r.body)) in
     record {
       few = omega arith;
+      few_contraries = subst (λ ps. length ps ≤ MAX_CONTRARY_LINES) (sym (contraries_in_said f)) room;
       flat = λ x body c d.
           let rule = rule_from f x body d in
           (h.form.rules_are rule.0 rule.1).flat
           (subst (Contains f.assumptions) (sym rule.2) (assumption_from f x c));
-      one_contrary = λ x y z c d. firsts_unique f.contraries up x y z (contrary_from f x y c).0 (contrary_from f x z d).0;
     }
 
 framework_of_said : (f : Aba) → IsNumberedAba f → IsSolid f → IsFrameworkOf f.atoms (said_of f) f
-framework_of_said f h solid =
-    let up : IsStrictlyIncreasing (map (λ (p : ℕ × ℕ). p.0) f.contraries)
-    = subst IsStrictlyIncreasing (sym h.form.one_contrary) h.form.assumptions_rise in
-    record {
-      atoms_are = refl;
-      assumptions_are = λ x. (λ c. assumption_said f x c, λ c. assumption_from f x c);
-      contraries_are = λ a c. (
-        λ there. ⊎_elim
-            (λ (none : c ≡ 0). inr (
-              none,
-              assumption_said f a (assumption_of f h.form.one_contrary a c there),
-              λ d said.
-                  let other = contrary_from f a d said in
-                  other.1 (firsts_unique f.contraries up a d c other.0 there ∙ none),
-            ))
-            (λ some. inl (contrary_said f (a, c) there some)) (cases_eq c 0),
-        λ said. ⊎_elim (λ given. (contrary_from f a c given).0)
-            (λ (none : (c ≡ 0) × Contains (said_of f) (says_assumption a)
-            × ((d : ℕ) → Contains (said_of f) (says_contrary a d) → ⊥)).
-            let some = contrary_there f h.form.one_contrary a (assumption_from f a none.1) in
-            ⊎_elim (λ (zero_is : some.0 ≡ 0). subst (λ n. Contains f.contraries (a, n)) (zero_is ∙ sym none.0) some.1)
-            (λ given. absurd (none.2 some.0 (contrary_said f (a, some.0) some.1 given))) (cases_eq some.0 0)) said,
-      );
-      rules_are = subst (λ rs. AllZip IsRuleSaid rs f.rules) (sym (rules_in_said f)) (rules_zipped f.rules);
-      solid = solid;
-      form = h;
-    }
+framework_of_said f h solid = record {
+  atoms_are = refl;
+  assumptions_are = λ x. (λ c. assumption_said f x c, λ c. assumption_from f x c);
+  contraries_are = λ a c. (λ there. pair_said f (a, c) there, λ said. contrary_from f a c said);
+  rules_are = subst (λ rs. AllZip IsRuleSaid rs f.rules) (sym (rules_in_said f)) (rules_zipped f.rules);
+  solid = solid;
+  form = h;
+}
 
 -- ---- the whole text
 
@@ -396,14 +315,11 @@ atoms_said f h s there x c = from_it (said_from f s there)
         let is = subst (λ t. Contains (atoms_of t) x) (sym e) c in
         ⊎_elim (λ (same : y ≡ x). subst (IsAtom f.atoms) same (h.form.assumptions_are y d))
         (λ none. absurd (omega (arith, none.1))) (Contains-cons_cases y [] x is)
-    from_it (of_contrary p d some e) =
+    from_it (of_contrary p d e) =
         let is = subst (λ t. Contains (atoms_of t) x) (sym e) c in
-        ⊎_elim (λ (same : p.0 ≡ x). subst (IsAtom f.atoms) same
-        (h.form.assumptions_are p.0 (assumption_of f h.form.one_contrary p.0 p.1 d)))
-        (λ (same : p.1 ≡ x).
-        let high = h.form.contraries_are p.0 p.1 d in
-        subst (IsAtom f.atoms) same (record { low = omega (arith, some); high = high }))
-        (pair_member p.0 p.1 x is)
+        let pair = h.form.contraries_are p.0 p.1 d in
+        ⊎_elim (λ (same : p.0 ≡ x). subst (IsAtom f.atoms) same (h.form.assumptions_are p.0 pair.0))
+        (λ (same : p.1 ≡ x). subst (IsAtom f.atoms) same pair.1) (pair_member p.0 p.1 x is)
     from_it (of_rule r d e) =
         let is = subst (λ t. Contains (atoms_of t) x) (sym e) c in
         let rule = h.form.rules_are r d in
@@ -433,9 +349,10 @@ header_free =
     (All-cons P 97 (32 ∷ []) refl
     (one_byte P 32 refl)))))
 
-pub reads_back : (f : Aba) → IsNumberedAba f → IsSolid f → ReadsAs (aba_text f) f
+pub reads_back : (f : Aba) → IsNumberedAba f → IsSolid f → length f.contraries ≤ MAX_CONTRARY_LINES
+    → ReadsAs (aba_text f) f
 unfolding lines_of line_at AreAtoms
-reads_back f h solid =
+reads_back f h solid room =
     let small = h.atoms in
     let n = decimal_number f.atoms (omega arith) in
     let fields : field_texts (codes "p aba " ++ decimal f.atoms) ≡ codes "p" ∷ codes "aba" ∷ decimal f.atoms ∷ []
@@ -462,10 +379,9 @@ reads_back f h solid =
         header_is = record { number = decimal f.atoms; fields = fields; number_is = n; few = small };
         others_are = record {
           each = said_lines f.atoms (1 + 1) start (said_of f) small atoms;
-          consistent = consistent_of f h solid;
+          consistent = consistent_of f h solid room;
         };
-        of_assumptions = λ x y c.
-            assumption_said f x (assumption_of f h.form.one_contrary x y (contrary_from f x y c).0);
+        of_assumptions = λ x y c. assumption_said f x (h.form.contraries_are x y (contrary_from f x y c)).0;
       };
       framework = framework_of_said f h solid;
     }

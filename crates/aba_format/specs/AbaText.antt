@@ -1,5 +1,5 @@
 -- The text of a flat assumption-based framework, and the framework that it describes.
-use Rattle.std.specs.Prelude.{◌≡◌, ◌↔◌, ◌⊎◌, ℕ, ◌≤◌, List, [], ◌∷◌, length, Contains, codes}
+use Rattle.std.specs.Prelude.{◌≡◌, ◌↔◌, ℕ, ◌≤◌, List, [], ◌∷◌, length, Contains, codes}
 use Rattle.std.specs.List.{AllZip}
 use Rattle.num_text.specs.Cuts.{LineText, field_texts}
 use Rattle.num_text.specs.Lines.{kept_lines}
@@ -8,9 +8,9 @@ use Rattle.semantics.specs.Rules.{Rule}
 use Rattle.semantics.specs.AbaFrameworks.{Aba, IsAtom, IsNumberedAba}
 use Rattle.aba_notions.specs.Solid.{IsSolid}
 use Rattle.af_format.specs.Headers.{aba_word, IsHeaderOf}
-use Rattle.aba_format.specs.declared.said.TheConstants.{MAX_RULE_LINES}
+use Rattle.aba_format.specs.declared.said.TheConstants.{MAX_CONTRARY_LINES, MAX_RULE_LINES}
 
--- what a line behind the header says: that x is an assumption, that y is the contrary of x, or a rule with this head and
+-- what a line behind the header says: that x is an assumption, that y is a contrary of x, or a rule with this head and
 -- this body
 pub data Said : Type 0 where
   says_assumption : (x : ℕ) → Said
@@ -47,11 +47,18 @@ rules_said (says_assumption x ∷ more) = rules_said more
 rules_said (says_contrary x y ∷ more) = rules_said more
 rules_said (says_rule head body ∷ more) = (head, body) ∷ rules_said more
 
--- what is said makes no assumption the head of a rule, gives no atom two contraries, and there aren't too many rules
+-- the contraries that are said, in order, a repeated one each time, each as an atom and a contrary of it
+abbrev pub contraries_said : List Said → List (ℕ × ℕ)
+contraries_said [] = []
+contraries_said (says_assumption x ∷ more) = contraries_said more
+contraries_said (says_contrary x y ∷ more) = (x, y) ∷ contraries_said more
+contraries_said (says_rule head body ∷ more) = contraries_said more
+
+-- what is said makes no assumption the head of a rule, and there aren't too many rules or contraries
 pub record AreConsistent (all : List Said) : Type 0 where
   pub few : length (rules_said all) ≤ MAX_RULE_LINES
+  pub few_contraries : length (contraries_said all) ≤ MAX_CONTRARY_LINES
   pub flat : (x : ℕ) (body : List ℕ) → Contains all (says_assumption x) → Contains all (says_rule x body) → ⊥
-  pub one_contrary : (x y z : ℕ) → Contains all (says_contrary x y) → Contains all (says_contrary x z) → y ≡ z
 
 -- each line says what stands at its index, and what they say is consistent
 pub record AreLines (count : ℕ) (lines : List LineText) (all : List Said) : Type 0 where
@@ -71,23 +78,17 @@ pub record IsAbaText (bytes : List ℕ) (count : ℕ) (all : List Said) : Type 0
   pub others_are : AreLines count others all
   pub of_assumptions : AreOfAssumptions all
 
--- c is the contrary of a that is said, or 0, where none is said of the assumption a
-abbrev pub IsContrarySaid : List Said → ℕ → ℕ → Type 0
-IsContrarySaid all a c =
-    Contains all (says_contrary a c)
-    ⊎ ((c ≡ 0) × Contains all (says_assumption a) × ((d : ℕ) → Contains all (says_contrary a d) → ⊥))
-
 -- the rule has this head, and its body the same members as this
 pub record IsRuleSaid (said : ℕ × List ℕ) (r : Rule) : Type 0 where
   pub head_is : r.head ≡ said.0
   pub body_is : (y : ℕ) → Contains r.body y ↔ Contains said.1 y
 
--- the framework has the atoms 1 to n, exactly these assumptions with their contraries, and these rules, numbered from 1
--- in their order
+-- the framework has the atoms 1 to n, exactly these assumptions and contraries of them, a repeated one once, and these
+-- rules, numbered from 1 in their order
 pub record IsFrameworkOf (count : ℕ) (all : List Said) (f : Aba) : Type 0 where
   pub atoms_are : f.atoms ≡ count
   pub assumptions_are : (x : ℕ) → Contains f.assumptions x ↔ Contains all (says_assumption x)
-  pub contraries_are : (a c : ℕ) → Contains f.contraries (a, c) ↔ IsContrarySaid all a c
+  pub contraries_are : (a c : ℕ) → Contains f.contraries (a, c) ↔ Contains all (says_contrary a c)
   pub rules_are : AllZip IsRuleSaid (rules_said all) f.rules
   pub solid : IsSolid f
   pub form : IsNumberedAba f

@@ -1,17 +1,17 @@
 -- The faults of the text of a flat assumption-based framework: which cause stands at which line, and which is told.
-use Rattle.std.specs.Prelude.{◌≡◌, ◌≢◌, ℕ, ◌+◌, ◌<◌, ◌≤◌, ◌⊎◌, ◌==◌, ◌&&◌, Bool, true, false, List, [], ◌∷◌, ◌++◌}
+use Rattle.std.specs.Prelude.{◌≡◌, ℕ, ◌+◌, ◌<◌, ◌≤◌, ◌⊎◌, ◌==◌, ◌&&◌, Bool, true, false, List, [], ◌∷◌, ◌++◌}
 use Rattle.std.specs.Prelude.{length, take, count_by, Contains, codes, slice_index, slice_index_or}
 use Rattle.num_text.specs.Cuts.{LineText, field_texts, lines_of}
 use Rattle.num_text.specs.Lines.{kept_lines}
 use Rattle.af_format.specs.declared.fault.LineCause.{LineCause}
 use Rattle.af_format.specs.declared.fault.LineCause.TheVariants.{NoHeader, WrongKind, BadHeader, SecondHeader}
 use Rattle.af_format.specs.declared.fault.LineCause.TheVariants.{BadLine, BadNumber, OutOfRange, TooManyLines}
-use Rattle.af_format.specs.declared.fault.LineCause.TheVariants.{NotFlat, SecondContrary, ContraryOfNonAssumption}
+use Rattle.af_format.specs.declared.fault.LineCause.TheVariants.{NotFlat, ContraryOfNonAssumption}
 use Rattle.af_format.specs.Causes.{rank}
 use Rattle.af_format.specs.Faults.{HaveNoNumber, HaveOutsider}
 use Rattle.af_format.specs.Headers.{af_word, aba_word, IsHeaderOf, BeginWithP, IsHeaderFault}
 use Rattle.aba_format.specs.AbaText.{Said, says_assumption, says_contrary, says_rule, SaysLine}
-use Rattle.aba_format.specs.declared.said.TheConstants.{MAX_RULE_LINES}
+use Rattle.aba_format.specs.declared.said.TheConstants.{MAX_CONTRARY_LINES, MAX_RULE_LINES}
 
 -- the fields are those of a line of one of the three kinds: `a` and one more, `c` and two more, or `r` and one more at
 -- least
@@ -37,17 +37,26 @@ StandsOnFields count fields BadNumber = HaveNoNumber (behind_first fields)
 StandsOnFields count fields OutOfRange = HaveOutsider count (behind_first fields)
 StandsOnFields count fields TooManyLines = ⊥
 StandsOnFields count fields NotFlat = ⊥
-StandsOnFields count fields SecondContrary = ⊥
 StandsOnFields count fields ContraryOfNonAssumption = ⊥
 
--- the first field is `r`
-abbrev pub begin_with_r : List (List ℕ) → Bool
-begin_with_r [] = false
-begin_with_r (first ∷ more) = (length first == 1) && (slice_index first 0 == 114)
+-- the first field is this byte
+abbrev pub begin_with : ℕ → List (List ℕ) → Bool
+begin_with byte [] = false
+begin_with byte (first ∷ more) = (length first == 1) && (slice_index first 0 == byte)
 
--- the line is a rule's
+-- the line is a rule's: its first field is `r`
 abbrev pub is_rule_line : LineText → Bool
-is_rule_line line = begin_with_r (field_texts line.text)
+is_rule_line line = begin_with 114 (field_texts line.text)
+
+-- the line is a contrary's: its first field is `c`
+abbrev pub is_contrary_line : LineText → Bool
+is_contrary_line line = begin_with 99 (field_texts line.text)
+
+-- the line is a rule's or a contrary's, and as many of its kind as are allowed stand before it
+abbrev pub IsOneTooMany : List LineText → LineText → Type 0
+IsOneTooMany before here =
+    ((is_rule_line here ≡ true) × (MAX_RULE_LINES ≤ count_by is_rule_line before))
+    ⊎ ((is_contrary_line here ≡ true) × (MAX_CONTRARY_LINES ≤ count_by is_contrary_line before))
 
 -- one of the lines says this
 abbrev pub SaySome : ℕ → List LineText → Said → Type 0
@@ -60,15 +69,6 @@ pub record AreNotFlat (count : ℕ) (lines : List LineText) : Type 0 where
   pub assumed : SaySome count lines (says_assumption x)
   pub heads : SaySome count lines (says_rule x body)
 
--- the line gives an atom another contrary than one of the earlier lines gave it
-pub record IsSecondContrary (count : ℕ) (before : List LineText) (here : LineText) : Type 0 where
-  pub x : ℕ
-  pub y : ℕ
-  pub z : ℕ
-  pub gives : SaysLine count here.text (says_contrary x y)
-  pub gave : SaySome count before (says_contrary x z)
-  pub differ : y ≢ z
-
 -- the cause stands on a line behind a header with this number of atoms, where these lines stand between the two
 abbrev pub StandsOnLine : ℕ → List LineText → LineText → LineCause → Type 0
 StandsOnLine count before here NoHeader = ⊥
@@ -78,10 +78,8 @@ StandsOnLine count before here SecondHeader = StandsOnFields count (field_texts 
 StandsOnLine count before here BadLine = StandsOnFields count (field_texts here.text) BadLine
 StandsOnLine count before here BadNumber = StandsOnFields count (field_texts here.text) BadNumber
 StandsOnLine count before here OutOfRange = StandsOnFields count (field_texts here.text) OutOfRange
-StandsOnLine count before here TooManyLines = (is_rule_line here ≡ true) ×
-    (MAX_RULE_LINES ≤ count_by is_rule_line before)
+StandsOnLine count before here TooManyLines = IsOneTooMany before here
 StandsOnLine count before here NotFlat = AreNotFlat count (before ++ here ∷ [])
-StandsOnLine count before here SecondContrary = IsSecondContrary count before here
 StandsOnLine count before here ContraryOfNonAssumption = ⊥
 
 -- the cause stands at a line behind a header in which none stands

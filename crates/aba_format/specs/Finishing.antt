@@ -1,9 +1,8 @@
 -- From what the lines of a text say to the framework.
-use Rattle.std.specs.Prelude.{◌≡◌, ◌↔◌, ℕ, ◌+◌, ◌<◌, ◌≤◌, List, Contains, length, slice_index}
+use Rattle.std.specs.Prelude.{◌≡◌, ◌↔◌, ℕ, ◌+◌, ◌<◌, ◌≤◌, Contains, length}
 use Rattle.semantics.specs.declared.numbers.TheConstants.{MAX_ATOM, MAX_RULE}
 use Rattle.semantics.specs.AbaFrameworks.{Aba, IsAtom, IsNumberedAba}
-use Rattle.aba_notions.specs.Solid.{IsSolid}
-use Rattle.aba_notions.specs.Storage.{AreRulesOf}
+use Rattle.aba_notions.specs.Storage.{AreContraries, AreRulesOf}
 use Rattle.std.specs.List.{range_with_len}
 use Rattle.aba_format.specs.declared.said.LineParts.{LineParts}
 
@@ -12,23 +11,16 @@ pub record AreFrameworkParts (count : ℕ) (parts : LineParts) : Type 0 where
   pub few : count ≤ MAX_ATOM
   pub few_rules : length parts.heads.items ≤ MAX_RULE
   pub assumptions : (a : ℕ) → Contains parts.assumptions.items a → IsAtom count a
-  pub wide : length parts.contrary.items ≡ count + 1
-  pub contraries : (a : ℕ) → slice_index parts.contrary.items a ≤ count
+  pub contraries : AreContraries count parts.assumptions.items parts.contraries.items
   pub heads : (h : ℕ) → Contains parts.heads.items h → IsAtom count h
   pub bodies : (k y : ℕ) → Contains parts.bodies.items (k, y) → (k < length parts.heads.items) × IsAtom count y
   pub flat : (h : ℕ) → Contains parts.heads.items h → Contains parts.assumptions.items h → ⊥
-
--- the pairs are the assumptions, each with its contrary
-abbrev pub IsPairedBy : List ℕ → List ℕ → List (ℕ × ℕ) → Type 0
-IsPairedBy assumptions contrary pairs =
-    (a c : ℕ) → Contains pairs (a, c) ↔ (Contains assumptions a × (c ≡ slice_index contrary a))
 
 -- the framework has these parts
 pub record IsFrameworkBy (count : ℕ) (parts : LineParts) (f : Aba) : Type 0 where
   pub atoms_are : f.atoms ≡ count
   pub assumptions_are : (a : ℕ) → Contains f.assumptions a ↔ Contains parts.assumptions.items a
-  pub contraries_are : (a c : ℕ) → Contains f.contraries (a, c)
-      ↔ (Contains parts.assumptions.items a × (c ≡ slice_index parts.contrary.items a))
+  pub contraries_are : (p : ℕ × ℕ) → Contains f.contraries p ↔ Contains parts.contraries.items p
   pub rules_are : AreRulesOf (range_with_len 1 (length parts.heads.items)) parts.heads.items parts.bodies.items f.rules
   pub next_is : f.next ≡ length parts.heads.items + 1
   pub form : IsNumberedAba f

@@ -1,19 +1,17 @@
 -- How a text is read, line by line.
-use Rattle.std.specs.Prelude.{◌≡◌, ◌≢◌, ◌⊎◌, ℕ, ◌+◌, ◌<◌, ◌≤◌, Bool, true, false, List, [], ◌∷◌, ◌++◌, length, map}
-use Rattle.std.specs.Prelude.{Contains, slice_index, slice_index_or, slice_set}
-use Rattle.std.specs.List.{AllZip, AllPairs}
+use Rattle.std.specs.Prelude.{◌≡◌, ◌⊎◌, ℕ, ◌+◌, ◌<◌, ◌≤◌, Bool, true, false, List, [], ◌∷◌, ◌++◌, length, map}
+use Rattle.std.specs.Prelude.{Contains, slice_index_or, slice_set}
+use Rattle.std.specs.List.{AllPairs}
 use Rattle.num_text.specs.Cuts.{LineText, FieldText, field_texts}
-use Rattle.num_text.specs.Number.{IsNumber}
-use Rattle.semantics.specs.AbaFrameworks.{IsAtom}
 use Rattle.af_format.specs.declared.fault.LineCause.{LineCause}
-use Rattle.af_format.specs.declared.fault.LineCause.TheVariants.{BadNumber, TooManyLines, NotFlat, SecondContrary}
+use Rattle.af_format.specs.declared.fault.LineCause.TheVariants.{BadNumber, TooManyLines, NotFlat}
 use Rattle.af_format.specs.declared.fault.LineCause.TheVariants.{ContraryOfNonAssumption}
 use Rattle.af_format.specs.Causes.{IsFirstCause}
 use Rattle.af_format.specs.Faults.{HaveNoNumber}
 use Rattle.aba_format.specs.AbaText.{Said, says_assumption, says_contrary, says_rule, SaysLine, AreLines}
-use Rattle.aba_format.specs.AbaText.{AreOfAssumptions, rules_said}
+use Rattle.aba_format.specs.AbaText.{AreOfAssumptions, contraries_said, rules_said}
 use Rattle.aba_format.specs.Faults.{StandsOnFields, StandsOnLine}
-use Rattle.aba_format.specs.declared.said.TheConstants.{MAX_RULE_LINES}
+use Rattle.aba_format.specs.declared.said.TheConstants.{MAX_CONTRARY_LINES, MAX_RULE_LINES}
 use Rattle.aba_format.specs.declared.said.LineParts.{LineParts}
 use Rattle.aba_format.specs.declared.statement.Statement.{Statement}
 use Rattle.aba_format.specs.declared.statement.Statement.TheVariants.{Assumption, Contrary, Rule}
@@ -51,18 +49,19 @@ is_marked marks x = slice_index_or marks x false
 pub record AreWide (x : ℕ) (parts : LineParts) : Type 0 where
   pub assumed : x < length parts.assumed.items
   pub heading : x < length parts.heading.items
-  pub contrary : x < length parts.contrary.items
+  pub opposed : x < length parts.opposed.items
 
 -- nothing is said of so many atoms
 pub record AreEmpty (count : ℕ) (parts : LineParts) : Type 0 where
   pub assumed_wide : length parts.assumed.items ≡ count + 1
   pub heading_wide : length parts.heading.items ≡ count + 1
-  pub contrary_wide : length parts.contrary.items ≡ count + 1
+  pub opposed_wide : length parts.opposed.items ≡ count + 1
   pub assumed : (x : ℕ) → is_marked parts.assumed.items x ≡ false
   pub heading : (x : ℕ) → is_marked parts.heading.items x ≡ false
-  pub contrary : (x : ℕ) → slice_index parts.contrary.items x ≡ 0
+  pub opposed : (x : ℕ) → is_marked parts.opposed.items x ≡ false
   pub assumptions : parts.assumptions.items ≡ []
   pub given : parts.given.items ≡ []
+  pub contraries : parts.contraries.items ≡ []
   pub heads : parts.heads.items ≡ []
   pub bodies : parts.bodies.items ≡ []
 
@@ -72,8 +71,9 @@ pub record IsNewAssumption (x : ℕ) (old new : LineParts) : Type 0 where
   pub assumed : new.assumed.items ≡ slice_set old.assumed.items x true
   pub assumptions : new.assumptions.items ≡ old.assumptions.items ++ x ∷ []
   pub heading : new.heading.items ≡ old.heading.items
-  pub contrary : new.contrary.items ≡ old.contrary.items
+  pub opposed : new.opposed.items ≡ old.opposed.items
   pub given : new.given.items ≡ old.given.items
+  pub contraries : new.contraries.items ≡ old.contraries.items
   pub heads : new.heads.items ≡ old.heads.items
   pub bodies : new.bodies.items ≡ old.bodies.items
 
@@ -82,21 +82,28 @@ pub record AddsAssumption (x : ℕ) (old new : LineParts) : Type 0 where
   pub flat : is_marked old.heading.items x ≡ false
   pub added : ((is_marked old.assumed.items x ≡ true) × (new ≡ old)) ⊎ IsNewAssumption x old new
 
--- x gets its contrary, as the line of this number says
-pub record IsNewContrary (x y line : ℕ) (old new : LineParts) : Type 0 where
-  pub fresh : slice_index old.contrary.items x ≡ 0
-  pub contrary : new.contrary.items ≡ slice_set old.contrary.items x y
+-- x was given a contrary before
+pub record IsOpposedAgain (x : ℕ) (old new : LineParts) : Type 0 where
+  pub earlier : is_marked old.opposed.items x ≡ true
+  pub opposed : new.opposed.items ≡ old.opposed.items
+  pub given : new.given.items ≡ old.given.items
+
+-- x is given a contrary for the first time, by the line of this number
+pub record IsFirstOpposed (x line : ℕ) (old new : LineParts) : Type 0 where
+  pub fresh : is_marked old.opposed.items x ≡ false
+  pub opposed : new.opposed.items ≡ slice_set old.opposed.items x true
   pub given : new.given.items ≡ old.given.items ++ (x, line) ∷ []
+
+-- y is a contrary of x from here on, as the line of this number says
+pub record AddsContrary (x y line : ℕ) (old new : LineParts) : Type 0 where
+  pub few : length old.contraries.items < MAX_CONTRARY_LINES
+  pub contraries : new.contraries.items ≡ old.contraries.items ++ (x, y) ∷ []
+  pub marked : IsOpposedAgain x old new ⊎ IsFirstOpposed x line old new
   pub assumed : new.assumed.items ≡ old.assumed.items
   pub heading : new.heading.items ≡ old.heading.items
   pub assumptions : new.assumptions.items ≡ old.assumptions.items
   pub heads : new.heads.items ≡ old.heads.items
   pub bodies : new.bodies.items ≡ old.bodies.items
-
--- x has the contrary y from here on
-abbrev pub AddsContrary : ℕ → ℕ → ℕ → LineParts → LineParts → Type 0
-AddsContrary x y line old new =
-    ((slice_index old.contrary.items x ≡ y) × (new ≡ old)) ⊎ IsNewContrary x y line old new
 
 -- each atom of the body stands behind, paired with the index of its rule
 abbrev pub AddsBody : ℕ → List ℕ → List (ℕ × ℕ) → List (ℕ × ℕ) → Type 0
@@ -110,17 +117,17 @@ pub record AddsRule (head : ℕ) (body : List ℕ) (old new : LineParts) : Type 
   pub heads : new.heads.items ≡ old.heads.items ++ head ∷ []
   pub bodies : AddsBody (length old.heads.items) body old.bodies.items new.bodies.items
   pub assumed : new.assumed.items ≡ old.assumed.items
-  pub contrary : new.contrary.items ≡ old.contrary.items
+  pub opposed : new.opposed.items ≡ old.opposed.items
   pub assumptions : new.assumptions.items ≡ old.assumptions.items
   pub given : new.given.items ≡ old.given.items
+  pub contraries : new.contraries.items ≡ old.contraries.items
 
 -- the cause for which each of the three is refused
 abbrev pub RefusesAssumption : ℕ → LineParts → LineCause → Type 0
 RefusesAssumption x old cause = (cause ≡ NotFlat) × (is_marked old.heading.items x ≡ true)
 
-abbrev pub RefusesContrary : ℕ → ℕ → LineParts → LineCause → Type 0
-RefusesContrary x y old cause =
-    (cause ≡ SecondContrary) × (slice_index old.contrary.items x ≢ 0) × (slice_index old.contrary.items x ≢ y)
+abbrev pub RefusesContrary : LineParts → LineCause → Type 0
+RefusesContrary old cause = (cause ≡ TooManyLines) × (MAX_CONTRARY_LINES ≤ length old.contraries.items)
 
 abbrev pub RefusesRule : ℕ → LineParts → LineCause → Type 0
 RefusesRule head old cause =
@@ -136,14 +143,14 @@ Adds (says_rule head body) line old new = AddsRule head body old new
 -- the cause for which it is refused
 abbrev pub Refuses : Said → LineParts → LineCause → Type 0
 Refuses (says_assumption x) old cause = RefusesAssumption x old cause
-Refuses (says_contrary x y) old cause = RefusesContrary x y old cause
+Refuses (says_contrary x y) old cause = RefusesContrary old cause
 Refuses (says_rule head body) old cause = RefusesRule head old cause
 
 -- each list by atoms has an item for each of so many
 pub record AreWideFor (count : ℕ) (parts : LineParts) : Type 0 where
   pub assumed : length parts.assumed.items ≡ count + 1
   pub heading : length parts.heading.items ≡ count + 1
-  pub contrary : length parts.contrary.items ≡ count + 1
+  pub opposed : length parts.opposed.items ≡ count + 1
 
 -- what the line says is taken in
 pub record TakesLine (count number : ℕ) (line : List ℕ) (old new : LineParts) : Type 0 where
@@ -183,10 +190,8 @@ pub record IsSaidIn (count : ℕ) (all : List Said) (parts : LineParts) : Type 0
   pub wide : AreWideFor count parts
   pub assumed : AreMarked parts.assumed.items (λ x. Contains all (says_assumption x))
   pub heading : AreMarked parts.heading.items (λ x. (body : List ℕ) × Contains all (says_rule x body))
-  pub contrary : (x : ℕ) → slice_index parts.contrary.items x ≢ 0
-      → Contains all (says_contrary x (slice_index parts.contrary.items x))
-  pub contraries_all : (x y : ℕ) → Contains all (says_contrary x y) → slice_index parts.contrary.items x ≡ y
-  pub contraries_low : (x y : ℕ) → Contains all (says_contrary x y) → 1 ≤ y
+  pub opposed : AreMarked parts.opposed.items (λ x. (y : ℕ) × Contains all (says_contrary x y))
+  pub contraries : parts.contraries.items ≡ contraries_said all
   pub assumptions : (x : ℕ) → Contains parts.assumptions.items x → Contains all (says_assumption x)
   pub assumptions_all : (x : ℕ) → Contains all (says_assumption x) → Contains parts.assumptions.items x
   pub rules : AreRulesIn (rules_said all) parts.heads.items parts.bodies.items

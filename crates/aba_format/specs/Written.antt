@@ -1,5 +1,5 @@
 -- The text that is written of a flat assumption-based framework.
-use Rattle.std.specs.Prelude.{ℕ, ◌==◌, Bool, if◌then◌else◌, List, [], ◌∷◌, ◌++◌, codes}
+use Rattle.std.specs.Prelude.{ℕ, List, [], ◌∷◌, ◌++◌, codes}
 use Rattle.std.specs.List.{flat_map}
 use Rattle.std.specs.Fmt.{decimal}
 use Rattle.semantics.specs.Rules.{Rule}
@@ -22,9 +22,9 @@ said_line said = keyword said ++ (spaced (atoms_of said) ++ 10 ∷ [])
 abbrev pub assumption_line : ℕ → List ℕ
 assumption_line x = said_line (says_assumption x)
 
--- the line of an atom and its contrary; the contrary 0 has none
+-- the line of an assumption and a contrary of it
 abbrev pub contrary_line : ℕ × ℕ → List ℕ
-contrary_line p = if p.1 == 0 then [] else said_line (says_contrary p.0 p.1)
+contrary_line p = said_line (says_contrary p.0 p.1)
 
 -- the line of a rule
 abbrev pub rule_line : Rule → List ℕ

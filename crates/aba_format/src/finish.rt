@@ -1,9 +1,9 @@
 //! The framework of what the lines of a text say.
 
-ghost use Rattle.std.specs.Prelude.{◌≡◌, ◌↔◌, ℕ, ◌+◌, ◌<◌, ◌≤◌, Contains, IfOk, length, slice_index};
+ghost use Rattle.std.specs.Prelude.{◌≡◌, ◌↔◌, ℕ, ◌+◌, ◌<◌, ◌≤◌, Contains, IfOk, length};
 ghost use Rattle.std.specs.List.{range_with_len};
 ghost use Rattle.semantics.specs.declared.numbers.TheConstants.{MAX_RULE};
-ghost use Rattle.aba_format.specs.Finishing.{AreFrameworkParts, IsFrameworkBy, IsPairedBy};
+ghost use Rattle.aba_format.specs.Finishing.{AreFrameworkParts, IsFrameworkBy};
 
 use crate::said::LineParts;
 use aba_notions::{AbaPlain, RuleLists};
@@ -19,14 +19,14 @@ pub(crate) fn framework_of(alloc: Global, count: u32, parts: LineParts) -> Resul
     let LineParts {
         assumed: _,
         heading: _,
-        contrary,
+        opposed: _,
         assumptions,
         given: _,
+        contraries,
         heads,
         bodies,
     } = parts;
     let assumptions = NumSet::from_slice(alloc, &assumptions)?;
-    let contraries = contraries_of(alloc, assumptions.as_slice(), &contrary)?;
     let next = heads.len() as u32 + 1;
     let numbers = (1..next).collect(alloc)?;
     let rules = RuleLists {
@@ -35,20 +35,4 @@ pub(crate) fn framework_of(alloc: Global, count: u32, parts: LineParts) -> Resul
         bodies,
     };
     AbaPlain::new(alloc, count, assumptions, contraries, rules, next)
-}
-
-// Each of the assumptions, paired with its contrary.
-fn contraries_of(
-    alloc: Global,
-    assumptions: &[u32],
-    contrary: &[u32],
-) -> Result<Vec<(u32, u32)>, Memory>
-    requires { (a : ℕ) → Contains assumptions.now a → a < length contrary.now }
-    ensures { IfOk result (λ pairs. IsPairedBy assumptions.now contrary.now pairs.items) }
-{
-    let mut pairs = Vec::with_capacity(alloc, assumptions.len())?;
-    for assumption in assumptions {
-        pairs.push((*assumption, contrary[*assumption as usize]))?;
-    }
-    Ok(pairs)
 }

@@ -11,6 +11,7 @@ ghost use Rattle.af_format.specs.declared.fault.ReadFault.TheVariants.{Memory as
 ghost use Rattle.num_text.specs.declared.limit.TheConstants.{MAX_INPUT};
 
 use crate::read::read_aba;
+use crate::said::MAX_CONTRARY_LINES;
 use crate::write::write_aba;
 use aba_notions::AbaPlain;
 use af_format::ReadFault;
@@ -22,10 +23,11 @@ pub fn one_reading()
     ensures faultless { (bytes : List ℕ) → (f : Aba) → ReadsAs bytes f → IsFaultless bytes }
 {}
 
-/// The framework that is read from its own text, where that is not too long: the same one. Nothing but want of memory
-/// comes between. Only tests call it: its contract is the law.
+/// The framework that is read from its own text, where that is not too long and has not too many contraries: the same
+/// one. Nothing but want of memory comes between. Only tests call it: its contract is the law.
 pub fn read_back(alloc: Global, framework: &AbaPlain) -> Result<AbaPlain, ReadFault>
     requires solid { IsSolid framework.now }
+    requires few { length framework.now.contraries ≤ MAX_CONTRARY_LINES }
     requires short { length (aba_text framework.now) ≤ MAX_INPUT }
     ensures same { IfOk result (λ f. f ≡ framework.now) }
     ensures fault { IfErr result (λ e. e ≡ refused) }

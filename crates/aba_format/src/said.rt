@@ -15,6 +15,9 @@ use std::alloc::Global;
 /// The most rule lines that a framework's text may have.
 pub const MAX_RULE_LINES: usize = 1_000_000;
 
+/// The most lines with a contrary that a framework's text may have, repeated ones included.
+pub const MAX_CONTRARY_LINES: usize = 10_000_000;
+
 /// What the lines of a text say. The first three lists have an item for each atom, by its number.
 #[derive(Drop)]
 pub(crate) struct LineParts {
@@ -22,12 +25,14 @@ pub(crate) struct LineParts {
     pub(crate) assumed: Vec<bool>,
     /// Whether an atom heads a rule.
     pub(crate) heading: Vec<bool>,
-    /// The contrary of an atom, or 0 where none was given.
-    pub(crate) contrary: Vec<u32>,
+    /// Whether an atom was given a contrary.
+    pub(crate) opposed: Vec<bool>,
     /// The assumptions, in the order of the lines that first say so.
     pub(crate) assumptions: Vec<u32>,
     /// The atoms that were given a contrary, each with the number of the line that first did so.
     pub(crate) given: Vec<(u32, usize)>,
+    /// Pairs of an atom and a contrary of it, one for each line that says so.
+    pub(crate) contraries: Vec<(u32, u32)>,
     /// The heads of the rules.
     pub(crate) heads: Vec<u32>,
     /// Pairs of the index of a rule and an atom of its body.
@@ -44,9 +49,10 @@ impl LineParts {
         Ok(LineParts {
             assumed: vec![in alloc; false; width]?,
             heading: vec![in alloc; false; width]?,
-            contrary: vec![in alloc; 0u32; width]?,
+            opposed: vec![in alloc; false; width]?,
             assumptions: Vec::new(alloc),
             given: Vec::new(alloc),
+            contraries: Vec::new(alloc),
             heads: Vec::new(alloc),
             bodies: Vec::new(alloc),
         })
@@ -70,21 +76,21 @@ impl LineParts {
         Ok(())
     }
 
-    /// Takes in that y is the contrary of x, as the line of this number says.
+    /// Takes in that y is a contrary of x, as the line of this number says.
     pub(crate) fn add_contrary(&mut self, x: u32, y: u32, line: usize) -> Result<(), LineStop>
         requires { AreWide x self.old }
         ensures ok { OnOk result (AddsContrary x y line self.old self.new) }
-        ensures err { IfErr result (λ stop. IfCause stop (RefusesContrary x y self.old)) }
+        ensures err { IfErr result (λ stop. IfCause stop (RefusesContrary self.old)) }
     {
+        if self.contraries.len() >= MAX_CONTRARY_LINES {
+            return Err(LineStop::Cause(LineCause::TooManyLines));
+        }
+        self.contraries.push((x, y))?;
         let at = x as usize;
-        let earlier = self.contrary[at];
-        if earlier == y {
+        if self.opposed[at] {
             return Ok(());
         }
-        if earlier != 0 {
-            return Err(LineStop::Cause(LineCause::SecondContrary));
-        }
-        self.contrary[at] = y;
+        self.opposed[at] = true;
         self.given.push((x, line))?;
         Ok(())
     }

@@ -20,7 +20,7 @@ use num_text::{Fields, Line, NumberField, fields};
 pub(crate) enum Statement {
     /// An assumption.
     Assumption(u32),
-    /// An atom and its contrary.
+    /// An atom and a contrary of it.
     Contrary(u32, u32),
     /// A rule with this head.
     Rule(u32),

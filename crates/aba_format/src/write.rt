@@ -8,19 +8,22 @@ ghost use Rattle.aba_notions.specs.Solid.{IsSolid};
 ghost use Rattle.aba_format.specs.AbaText.{ReadsAs, says_rule};
 ghost use Rattle.aba_format.specs.Written.{aba_text, assumption_line, contrary_line, rule_line, said_line};
 
+use crate::said::MAX_CONTRARY_LINES;
 use aba_notions::AbaPlain;
 use lists::{Bytes, Memory};
 use std::alloc::Global;
 use std::fmt::Write;
 
-/// The text of a framework whose rules are numbered from 1 without a gap ([`AbaPlain::is_solid`] is the test): the header,
-/// a line for each assumption, for each contrary but 0, and for each rule, each in rising order. Where it has at most
-/// `MAX_INPUT` bytes, [`read_aba`](crate::read_aba) reads it as the same framework. `Memory` says that an allocation
-/// was refused. No command writes a framework: the law that it reads back, and tests, call this.
+/// The text of a framework whose rules are numbered from 1 without a gap ([`AbaPlain::is_solid`] is the test): the
+/// header, a line for each assumption, for each contrary by assumption and then by contrary, and for each rule, each in
+/// rising order. Where it has at most `MAX_INPUT` bytes and 10,000,000 contraries, [`read_aba`](crate::read_aba) reads it
+/// as the same framework. `Memory` says that an allocation was refused. No command writes a framework: the law that it
+/// reads back, and tests, call this.
 pub fn write_aba(alloc: Global, framework: &AbaPlain) -> Result<Bytes, Memory>
     requires { IsSolid framework.now }
     ensures text { IfOk result (λ text. text ≡ aba_text framework.now) }
-    ensures back { IfOk result (λ text. ReadsAs text framework.now) }
+    ensures back { length framework.now.contraries ≤ MAX_CONTRARY_LINES
+        → IfOk result (λ text. ReadsAs text framework.now) }
 {
     let text = text_of(alloc, framework)?;
     Ok(Bytes::from_vec(text.into_bytes()))
@@ -59,7 +62,7 @@ fn push_assumption(text: &mut String, assumption: u32) -> Result<(), Memory>
     Ok(())
 }
 
-// Adds the line of each contrary but 0.
+// Adds the line of each pair of an assumption and a contrary of it.
 fn push_contraries(text: &mut String, pairs: &[(u32, u32)]) -> Result<(), Memory>
     ensures { OnOk result (string_bytes text.new ≡ string_bytes text.old ++ flat_map contrary_line pairs.now) }
 {
@@ -69,14 +72,11 @@ fn push_contraries(text: &mut String, pairs: &[(u32, u32)]) -> Result<(), Memory
     Ok(())
 }
 
-// Adds the line of an assumption and its contrary, if that is not 0.
+// Adds the line of an assumption and a contrary of it.
 fn push_contrary(text: &mut String, pair: (u32, u32)) -> Result<(), Memory>
     ensures { OnOk result (string_bytes text.new ≡ string_bytes text.old ++ contrary_line pair) }
 {
     let (assumption, contrary) = pair;
-    if contrary == 0 {
-        return Ok(());
-    }
     write!(text, "c {assumption} {contrary}\n")?;
     Ok(())
 }

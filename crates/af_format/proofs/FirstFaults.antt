@@ -5,7 +5,7 @@ use Rattle.std.proofs.lemmas.List.{get_or_append_left, length-append}
 use Rattle.std.proofs.Math.Seq.{get_or-append_seam}
 use Rattle.num_text.specs.Cuts.{LineText, field_texts, lines_of}
 use Rattle.af_format.specs.declared.fault.LineCause.{LineCause}
-use Rattle.af_format.specs.declared.fault.LineCause.TheVariants.{NoHeader, WrongKind, BadHeader, SecondHeader, BadLine, BadNumber, OutOfRange, TooManyLines, NotFlat, SecondContrary, ContraryOfNonAssumption}
+use Rattle.af_format.specs.declared.fault.LineCause.TheVariants.{NoHeader, WrongKind, BadHeader, SecondHeader, BadLine, BadNumber, OutOfRange, TooManyLines, NotFlat, ContraryOfNonAssumption}
 use Rattle.num_text.specs.Lines.{kept_lines}
 use Rattle.af_format.specs.AfText.{IsHeader, IsAttackLine, AreAttackLines}
 use Rattle.af_format.specs.Causes.{rank, IsFirstCause}
@@ -42,7 +42,6 @@ lowest BadNumber = omega arith
 lowest OutOfRange = omega arith
 lowest TooManyLines = omega arith
 lowest NotFlat = omega arith
-lowest SecondContrary = omega arith
 lowest ContraryOfNonAssumption = omega arith
 
 -- where all lines are skipped

@@ -11,7 +11,7 @@ use Rattle.af_format.specs.declared.af_line.TheConstants.{MAX_ATTACK_LINES}
 use Rattle.af_format.specs.declared.fault.LineCause.{LineCause}
 use Rattle.af_format.specs.declared.fault.LineCause.TheVariants.{NoHeader, WrongKind, BadHeader, SecondHeader}
 use Rattle.af_format.specs.declared.fault.LineCause.TheVariants.{BadLine, BadNumber, OutOfRange, TooManyLines}
-use Rattle.af_format.specs.declared.fault.LineCause.TheVariants.{NotFlat, SecondContrary, ContraryOfNonAssumption}
+use Rattle.af_format.specs.declared.fault.LineCause.TheVariants.{NotFlat, ContraryOfNonAssumption}
 use Rattle.af_format.specs.AfText.{IsHeader, IsAttackLine}
 use Rattle.af_format.specs.Causes.{rank, IsFirstCause}
 use Rattle.af_format.specs.Faults.{StandsOnAttack}
@@ -69,7 +69,6 @@ over_only own other fields n ne h OutOfRange stands =
     (subst (λ m. MAX_ARGUMENT < m) (AreHeaderOf-same own fields stands.0 n stands.1 h) stands.2, omega arith)
 over_only own other fields n ne h TooManyLines stands = absurd stands
 over_only own other fields n ne h NotFlat stands = absurd stands
-over_only own other fields n ne h SecondContrary stands = absurd stands
 over_only own other fields n ne h ContraryOfNonAssumption stands = absurd stands
 
 -- a header whose number is too large
@@ -145,7 +144,6 @@ limit_only count index line attack h OutOfRange stands =
     outside_not_inside count m n e low high (inr over) = absurd (omega arith)
 limit_only count index line attack h TooManyLines stands = (stands, omega arith)
 limit_only count index line attack h NotFlat stands = absurd stands
-limit_only count index line attack h SecondContrary stands = absurd stands
 limit_only count index line attack h ContraryOfNonAssumption stands = absurd stands
 
 -- the two members of two fields
@@ -182,5 +180,4 @@ bad_number count index fields a b field e not_p member none = record {
     rank_at_least count index fields a b e not_p OutOfRange stands = omega arith
     rank_at_least count index fields a b e not_p TooManyLines stands = omega arith
     rank_at_least count index fields a b e not_p NotFlat stands = absurd stands
-    rank_at_least count index fields a b e not_p SecondContrary stands = absurd stands
     rank_at_least count index fields a b e not_p ContraryOfNonAssumption stands = absurd stands

@@ -77,7 +77,7 @@ firsts_same x y xs ys up up' same = ⊎_elim (λ e. sym e)
     (first_or_later y ys x ((same x).0 (stands_first x xs)))
 
 -- rising pairs are told by their members
-rising_same : (xs ys : List (ℕ × ℕ)) → AllPairs IsPairBefore xs → AllPairs IsPairBefore ys
+pub rising_same : (xs ys : List (ℕ × ℕ)) → AllPairs IsPairBefore xs → AllPairs IsPairBefore ys
     → ((p : ℕ × ℕ) → Contains xs p ↔ Contains ys p) → xs ≡ ys
 rising_same [] [] up up' same = refl
 rising_same [] (y ∷ ys) up up' same = let c = (same y).1 (stands_first y ys) in absurd (omega (arith, c.1))

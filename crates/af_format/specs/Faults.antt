@@ -6,7 +6,7 @@ use Rattle.af_format.specs.declared.af_line.TheConstants.{MAX_ATTACK_LINES}
 use Rattle.af_format.specs.declared.fault.LineCause.{LineCause}
 use Rattle.af_format.specs.declared.fault.LineCause.TheVariants.{NoHeader, WrongKind, BadHeader, SecondHeader}
 use Rattle.af_format.specs.declared.fault.LineCause.TheVariants.{BadLine, BadNumber, OutOfRange, TooManyLines}
-use Rattle.af_format.specs.declared.fault.LineCause.TheVariants.{NotFlat, SecondContrary, ContraryOfNonAssumption}
+use Rattle.af_format.specs.declared.fault.LineCause.TheVariants.{NotFlat, ContraryOfNonAssumption}
 use Rattle.af_format.specs.declared.fault.LineFault.{LineFault}
 use Rattle.af_format.specs.declared.fault.ReadFault.{ReadFault}
 use Rattle.af_format.specs.declared.fault.ReadFault.TheVariants.{Line, Memory}
@@ -41,7 +41,6 @@ StandsOnAttack count index fields BadNumber = HaveNoNumber fields
 StandsOnAttack count index fields OutOfRange = HaveOutsider count fields
 StandsOnAttack count index fields TooManyLines = MAX_ATTACK_LINES ≤ index
 StandsOnAttack count index fields NotFlat = ⊥
-StandsOnAttack count index fields SecondContrary = ⊥
 StandsOnAttack count index fields ContraryOfNonAssumption = ⊥
 
 -- the cause stands at a line behind a header in which none stands

@@ -7,7 +7,7 @@ use Rattle.semantics.specs.declared.argument.TheConstants.{MAX_ARGUMENT}
 use Rattle.af_format.specs.declared.fault.LineCause.{LineCause}
 use Rattle.af_format.specs.declared.fault.LineCause.TheVariants.{NoHeader, WrongKind, BadHeader, SecondHeader}
 use Rattle.af_format.specs.declared.fault.LineCause.TheVariants.{BadLine, BadNumber, OutOfRange, TooManyLines}
-use Rattle.af_format.specs.declared.fault.LineCause.TheVariants.{NotFlat, SecondContrary, ContraryOfNonAssumption}
+use Rattle.af_format.specs.declared.fault.LineCause.TheVariants.{NotFlat, ContraryOfNonAssumption}
 use Rattle.af_format.specs.Causes.{IsFirstCause}
 
 -- the words of the two kinds
@@ -52,7 +52,6 @@ StandsOnHeader own other fields BadNumber = ⊥
 StandsOnHeader own other fields OutOfRange = (n : ℕ) × AreHeaderOf own fields n × (MAX_ARGUMENT < n)
 StandsOnHeader own other fields TooManyLines = ⊥
 StandsOnHeader own other fields NotFlat = ⊥
-StandsOnHeader own other fields SecondContrary = ⊥
 StandsOnHeader own other fields ContraryOfNonAssumption = ⊥
 
 -- the cause stands at the header's line

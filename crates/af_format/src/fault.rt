@@ -25,13 +25,11 @@ pub enum LineCause {
     BadNumber,
     /// The header's number is over `semantics::MAX_ARGUMENT`, or another number is not from 1 to the header's.
     OutOfRange,
-    /// The line is the 10,000,001st attack line, or the 1,000,001st rule line.
+    /// The line is the 10,000,001st attack line, the 10,000,001st `c` line or the 1,000,001st rule line.
     TooManyLines,
     /// With this line some atom is an assumption and the head of a rule. This cause and those behind it stand in the
     /// text of an assumption-based framework alone.
     NotFlat,
-    /// The line gives an atom another contrary than an earlier line gave it.
-    SecondContrary,
     /// The line is the first that gives a contrary to an atom that is no assumption. This is told after the last line,
     /// where no line has another fault.
     ContraryOfNonAssumption,
@@ -52,7 +50,6 @@ impl LineCause {
             LineCause::OutOfRange => "OutOfRange",
             LineCause::TooManyLines => "TooManyLines",
             LineCause::NotFlat => "NotFlat",
-            LineCause::SecondContrary => "SecondContrary",
             LineCause::ContraryOfNonAssumption => "ContraryOfNonAssumption",
         }
     }

@@ -7,7 +7,7 @@ use Rattle.lists.proofs.Membership.{Contains-head, Contains-nil, Contains-tail}
 use Rattle.semantics.specs.Framework.{Af}
 use Rattle.semantics.specs.Frameworks.{Framework, af, aba, IsNumberedAf}
 use Rattle.edit_rules.specs.declared.edit.Edit.{Edit}
-use Rattle.edit_rules.specs.declared.edit.Edit.TheVariants.{ArgAdd, ArgDrop, AttackAdd, AttackDrop, AsmAdd, AsmDrop, ConSet, RuleAdd, RuleDrop}
+use Rattle.edit_rules.specs.declared.edit.Edit.TheVariants.{ArgAdd, ArgDrop, AttackAdd, AttackDrop, AsmAdd, AsmDrop, ConSet, ConAdd, ConDrop, RuleAdd, RuleDrop}
 use Rattle.edit_rules.specs.declared.effect.Effect.{Effect}
 use Rattle.edit_rules.specs.declared.effect.EditFault.{EditFault}
 use Rattle.edit_rules.specs.declared.effect.EditFault.TheVariants.{AttackIsThere, NoSuchAttack}
@@ -73,6 +73,8 @@ stays_once (af f) (ArgDrop n) p is never c = absurd is
 stays_once (af f) (AsmAdd a d) p is never c = absurd is
 stays_once (af f) (AsmDrop a) p is never c = absurd is
 stays_once (af f) (ConSet a d) p is never c = absurd is
+stays_once (af f) (ConAdd a d) p is never c = absurd is
+stays_once (af f) (ConDrop a d) p is never c = absurd is
 stays_once (af f) (RuleAdd h body) p is never c = absurd is
 stays_once (af f) (RuleDrop r) p is never c = absurd is
 stays_once (aba f) edit p is never c = absurd (Contains-nil p c)
@@ -95,6 +97,8 @@ was_once (af f) (ArgDrop n) p is never = absurd is
 was_once (af f) (AsmAdd a d) p is never = absurd is
 was_once (af f) (AsmDrop a) p is never = absurd is
 was_once (af f) (ConSet a d) p is never = absurd is
+was_once (af f) (ConAdd a d) p is never = absurd is
+was_once (af f) (ConDrop a d) p is never = absurd is
 was_once (af f) (RuleAdd h body) p is never = absurd is
 was_once (af f) (RuleDrop r) p is never = absurd is
 was_once (aba f) (AttackAdd b a) p is never = λ c. c
@@ -104,6 +108,8 @@ was_once (aba f) (ArgDrop n) p is never = absurd is
 was_once (aba f) (AsmAdd a d) p is never = absurd is
 was_once (aba f) (AsmDrop a) p is never = absurd is
 was_once (aba f) (ConSet a d) p is never = absurd is
+was_once (aba f) (ConAdd a d) p is never = absurd is
+was_once (aba f) (ConDrop a d) p is never = absurd is
 was_once (aba f) (RuleAdd h body) p is never = absurd is
 was_once (aba f) (RuleDrop r) p is never = absurd is
 
@@ -120,6 +126,8 @@ live_once (af f) (ArgDrop n) is = absurd is
 live_once (af f) (AsmAdd a d) is = absurd is
 live_once (af f) (AsmDrop a) is = absurd is
 live_once (af f) (ConSet a d) is = absurd is
+live_once (af f) (ConAdd a d) is = absurd is
+live_once (af f) (ConDrop a d) is = absurd is
 live_once (af f) (RuleAdd h body) is = absurd is
 live_once (af f) (RuleDrop r) is = absurd is
 live_once (aba f) (AttackAdd b a) is = refl
@@ -129,6 +137,8 @@ live_once (aba f) (ArgDrop n) is = absurd is
 live_once (aba f) (AsmAdd a d) is = absurd is
 live_once (aba f) (AsmDrop a) is = absurd is
 live_once (aba f) (ConSet a d) is = absurd is
+live_once (aba f) (ConAdd a d) is = absurd is
+live_once (aba f) (ConDrop a d) is = absurd is
 live_once (aba f) (RuleAdd h body) is = absurd is
 live_once (aba f) (RuleDrop r) is = absurd is
 

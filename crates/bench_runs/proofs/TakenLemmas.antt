@@ -20,7 +20,7 @@ use Rattle.iccma_tasks.specs.declared.task.Kind.{Kind}
 use Rattle.iccma_tasks.specs.declared.task.Kind.TheVariants.{Af as OfAf, Aba as OfAba}
 use Rattle.edit_rules.specs.declared.edit.Edit.{Edit}
 use Rattle.edit_rules.specs.declared.edit.Edit.TheVariants.{ArgAdd, ArgDrop, AttackAdd, AttackDrop, AsmAdd}
-use Rattle.edit_rules.specs.declared.edit.Edit.TheVariants.{AsmDrop, ConSet, RuleAdd, RuleDrop}
+use Rattle.edit_rules.specs.declared.edit.Edit.TheVariants.{AsmDrop, ConSet, ConAdd, ConDrop, RuleAdd, RuleDrop}
 use Rattle.edit_rules.specs.declared.effect.Effect.{Effect}
 use Rattle.edit_rules.specs.declared.effect.EditFault.{EditFault}
 use Rattle.edit_rules.specs.Edits.{edit_outcome}

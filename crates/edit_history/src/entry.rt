@@ -43,12 +43,13 @@ pub(crate) fn copy_effect(alloc: Global, effect: &Effect) -> Result<Effect, Memo
 {
     let edit = effect.edit.copy(alloc)?;
     let dropped = copy_pairs(alloc, effect.dropped.as_slice())?;
+    let gone = copy_numbers(alloc, effect.gone.as_slice())?;
     let body = copy_numbers(alloc, effect.body.as_slice())?;
     Ok(Effect {
         edit,
         rule: effect.rule,
         dropped,
-        gone: effect.gone,
+        gone,
         head: effect.head,
         body,
     })

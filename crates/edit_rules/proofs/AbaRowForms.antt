@@ -1,7 +1,7 @@
 -- The frameworks behind the edits are in form.
 use Rattle.std.proofs.Common.{Result, Ok, Err, IfOk, ◌≡◌, ◌<◌, ◌≤◌, ◌+◌, ℕ, false, not, List, [], ◌∷◌, ◌++◌, refl}
 use Rattle.std.proofs.Common.{ap, sym, subst, ◌∙◌, map, get_or, arith, ⊎_elim, inl, inr}
-use Rattle.std.specs.Prelude.{Contains, ◌↔◌, ◌≢◌, ◌==◌, filter, nat_le, nat_lt, ◌&&◌}
+use Rattle.std.specs.Prelude.{Contains, ◌↔◌, ◌≢◌, ◌==◌, nat_le, nat_lt, ◌&&◌}
 use Rattle.std.specs.List.{AllPairs}
 use Rattle.std.specs.List.Sorted.{IsStrictlyIncreasing}
 use Rattle.std.proofs.lemmas.Bool.{false≢true, eqb-true, leb-true, lt-ltb, not-false, not_from_false, cases_lt}

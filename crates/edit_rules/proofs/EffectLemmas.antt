@@ -1,5 +1,5 @@
 -- An effect has its edit.
-use Rattle.std.proofs.Common.{◌≡◌, ◌∙◌, Result, Ok, Err, Some, is_ok, sym, ap, subst}
+use Rattle.std.proofs.Common.{◌≡◌, Ok, Some, is_ok, sym, ap}
 use Rattle.std.proofs.lemmas.Bool.{false≢true}
 use Rattle.semantics.specs.Frameworks.{Framework, af, aba}
 use Rattle.edit_rules.specs.declared.edit.Edit.{Edit}

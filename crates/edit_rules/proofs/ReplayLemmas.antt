@@ -1,6 +1,6 @@
 -- What edits keep of a framework, and what the framework and the effect behind an edit tell of the framework before.
-use Rattle.std.proofs.Common.{Result, Ok, Err, ◌≡◌, true, false, Bool, List, [], ◌∷◌, ℕ, sym, ◌∙◌, ap, subst, refl, ⊎_elim, inl}
-use Rattle.std.specs.Prelude.{Contains, ◌==◌, ◌&&◌, ◌<◌, is_ok}
+use Rattle.std.proofs.Common.{Result, Ok, Err, ◌≡◌, true, false, Bool, List, [], ◌∷◌, ℕ, sym, ◌∙◌, ap, subst, refl}
+use Rattle.std.specs.Prelude.{Contains, ◌==◌, ◌<◌, is_ok}
 use Rattle.std.proofs.lemmas.Bool.{false≢true, cond_both, not-false, eqb-true}
 use Rattle.std.proofs.lemmas.List.Kept.{AllPairs-from_increasing}
 use Rattle.lists.proofs.Filters.{Contains-filter}

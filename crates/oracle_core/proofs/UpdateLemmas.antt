@@ -19,7 +19,7 @@ use Rattle.certificate_claims.specs.Refutations.{axiom_clause}
 use Rattle.certificate_claims.specs.SetLiterals as set_literals
 use Rattle.edit_rules.specs.declared.edit.Edit.{Edit}
 use Rattle.edit_rules.specs.declared.edit.Edit.TheVariants.{ArgAdd, ArgDrop, AttackAdd, AttackDrop, AsmAdd}
-use Rattle.edit_rules.specs.declared.edit.Edit.TheVariants.{AsmDrop, ConSet, RuleAdd, RuleDrop}
+use Rattle.edit_rules.specs.declared.edit.Edit.TheVariants.{AsmDrop, ConSet, ConAdd, ConDrop, RuleAdd, RuleDrop}
 use Rattle.edit_rules.specs.Refusals.{Refusal, done_unless}
 use Rattle.edit_rules.specs.declared.effect.Effect.{Effect}
 use Rattle.edit_rules.specs.declared.effect.EditFault.{EditFault}
@@ -201,6 +201,8 @@ members_stay f (ArgDrop n) is = absurd is
 members_stay f (AsmAdd a c) is = absurd is
 members_stay f (AsmDrop a) is = absurd is
 members_stay f (ConSet a c) is = absurd is
+members_stay f (ConAdd a c) is = absurd is
+members_stay f (ConDrop a c) is = absurd is
 members_stay f (RuleAdd h body) is = absurd is
 members_stay f (RuleDrop r) is = absurd is
 

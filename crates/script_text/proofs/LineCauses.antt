@@ -9,7 +9,7 @@ use Rattle.iccma_tasks.specs.AnswerText.{behind_first}
 use Rattle.iccma_tasks.specs.Tasks.{Asked, task_name}
 use Rattle.edit_rules.specs.declared.edit.Edit.{Edit}
 use Rattle.edit_rules.specs.declared.edit.Edit.TheVariants.{ArgAdd, ArgDrop, AttackAdd, AttackDrop, AsmAdd, AsmDrop}
-use Rattle.edit_rules.specs.declared.edit.Edit.TheVariants.{ConSet, RuleAdd, RuleDrop}
+use Rattle.edit_rules.specs.declared.edit.Edit.TheVariants.{ConSet, ConAdd, ConDrop, RuleAdd, RuleDrop}
 use Rattle.script_text.specs.declared.fault.LineStop.{LineStop}
 use Rattle.script_text.specs.declared.fault.LineStop.TheVariants.{Wrong, Memory}
 use Rattle.script_text.specs.declared.fault.ScriptCause.{ScriptCause}
@@ -87,6 +87,8 @@ edit_takes (AttackDrop b a) count e = e
 edit_takes (AsmAdd a c) count e = e
 edit_takes (AsmDrop a) count e = e
 edit_takes (ConSet a c) count e = e
+edit_takes (ConAdd a c) count e = e
+edit_takes (ConDrop a c) count e = e
 edit_takes (RuleAdd h body) count e = omega arith
 edit_takes (RuleDrop r) count e = e
 

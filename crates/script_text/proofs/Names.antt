@@ -10,10 +10,10 @@ use Rattle.iccma_tasks.specs.declared.task.Task.{Task}
 use Rattle.iccma_tasks.specs.Tasks.{task_name, task_of}
 use Rattle.edit_rules.specs.declared.edit.Edit.{Edit}
 use Rattle.edit_rules.specs.declared.edit.Edit.TheVariants.{ArgAdd, ArgDrop, AttackAdd, AttackDrop, AsmAdd, AsmDrop}
-use Rattle.edit_rules.specs.declared.edit.Edit.TheVariants.{ConSet, RuleAdd, RuleDrop}
+use Rattle.edit_rules.specs.declared.edit.Edit.TheVariants.{ConSet, ConAdd, ConDrop, RuleAdd, RuleDrop}
 use Rattle.script_text.specs.declared.edit_word.EditWord.{EditWord}
 use Rattle.script_text.specs.declared.edit_word.EditWord.TheVariants.{Arg, NoArg, Att, NoAtt, Asm, NoAsm, Con}
-use Rattle.script_text.specs.declared.edit_word.EditWord.TheVariants.{Rule, NoRule}
+use Rattle.script_text.specs.declared.edit_word.EditWord.TheVariants.{AddCon, DelCon, Rule, NoRule}
 use Rattle.script_text.specs.Changes.{change_name, change_of, edit_numbers}
 
 some_same : {A : Type 0} (x y : A) → Some x ≡ Some y → x ≡ y
@@ -26,6 +26,7 @@ abbrev change_from : List ℕ → Option EditWord
 change_from name =
     if get_or name 1 0 == 114 then Some Arg else if get_or name 1 0 == 116 then Some Att else
     if get_or name 1 0 == 115 then Some Asm else if get_or name 1 0 == 117 then Some Rule else
+    if get_or name 1 0 == 100 then Some AddCon else if get_or name 1 0 == 101 then Some DelCon else
     if get_or name 3 0 == 114 then Some NoArg else if get_or name 3 0 == 116 then Some NoAtt else
     if get_or name 3 0 == 115 then Some NoAsm else if get_or name 3 0 == 117 then Some NoRule else Some Con
 
@@ -37,6 +38,8 @@ change_back NoAtt = refl
 change_back Asm = refl
 change_back NoAsm = refl
 change_back Con = refl
+change_back AddCon = refl
+change_back DelCon = refl
 change_back Rule = refl
 change_back NoRule = refl
 
@@ -52,6 +55,8 @@ not_k NoAtt e = absurd (omega arith)
 not_k Asm e = absurd (omega arith)
 not_k NoAsm e = absurd (omega arith)
 not_k Con e = absurd (omega arith)
+not_k AddCon e = absurd (omega arith)
+not_k DelCon e = absurd (omega arith)
 not_k Rule e = absurd (omega arith)
 not_k NoRule e = absurd (omega arith)
 
@@ -68,6 +73,8 @@ edit_from NoAtt (b ∷ a ∷ []) = Some (AttackDrop b a)
 edit_from Asm (a ∷ c ∷ []) = Some (AsmAdd a c)
 edit_from NoAsm (a ∷ []) = Some (AsmDrop a)
 edit_from Con (a ∷ c ∷ []) = Some (ConSet a c)
+edit_from AddCon (a ∷ c ∷ []) = Some (ConAdd a c)
+edit_from DelCon (a ∷ c ∷ []) = Some (ConDrop a c)
 edit_from Rule (h ∷ body) = Some (RuleAdd h body)
 edit_from NoRule (r ∷ []) = Some (RuleDrop r)
 edit_from _ _ = None
@@ -80,6 +87,8 @@ edit_back (AttackDrop b a) = refl
 edit_back (AsmAdd a c) = refl
 edit_back (AsmDrop a) = refl
 edit_back (ConSet a c) = refl
+edit_back (ConAdd a c) = refl
+edit_back (ConDrop a c) = refl
 edit_back (RuleAdd h body) = refl
 edit_back (RuleDrop r) = refl
 

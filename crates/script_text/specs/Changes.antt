@@ -2,10 +2,10 @@
 use Rattle.std.specs.Prelude.{◌≡◌, ℕ, ◌≤◌, List, [], ◌∷◌, codes}
 use Rattle.edit_rules.specs.declared.edit.Edit.{Edit}
 use Rattle.edit_rules.specs.declared.edit.Edit.TheVariants.{ArgAdd, ArgDrop, AttackAdd, AttackDrop, AsmAdd, AsmDrop}
-use Rattle.edit_rules.specs.declared.edit.Edit.TheVariants.{ConSet, RuleAdd, RuleDrop}
+use Rattle.edit_rules.specs.declared.edit.Edit.TheVariants.{ConSet, ConAdd, ConDrop, RuleAdd, RuleDrop}
 use Rattle.script_text.specs.declared.edit_word.EditWord.{EditWord}
 use Rattle.script_text.specs.declared.edit_word.EditWord.TheVariants.{Arg, NoArg, Att, NoAtt, Asm, NoAsm, Con}
-use Rattle.script_text.specs.declared.edit_word.EditWord.TheVariants.{Rule, NoRule}
+use Rattle.script_text.specs.declared.edit_word.EditWord.TheVariants.{AddCon, DelCon, Rule, NoRule}
 
 abbrev pub change_name : EditWord → List ℕ
 change_name Arg = codes "arg"
@@ -15,6 +15,8 @@ change_name NoAtt = codes "noatt"
 change_name Asm = codes "asm"
 change_name NoAsm = codes "noasm"
 change_name Con = codes "con"
+change_name AddCon = codes "addcon"
+change_name DelCon = codes "delcon"
 change_name Rule = codes "rule"
 change_name NoRule = codes "norule"
 
@@ -27,6 +29,8 @@ Takes NoAtt count = count ≡ 2
 Takes Asm count = count ≡ 2
 Takes NoAsm count = count ≡ 1
 Takes Con count = count ≡ 2
+Takes AddCon count = count ≡ 2
+Takes DelCon count = count ≡ 2
 Takes Rule count = 1 ≤ count
 Takes NoRule count = count ≡ 1
 
@@ -39,6 +43,8 @@ change_of (AttackDrop b a) = NoAtt
 change_of (AsmAdd a c) = Asm
 change_of (AsmDrop a) = NoAsm
 change_of (ConSet a c) = Con
+change_of (ConAdd a c) = AddCon
+change_of (ConDrop a c) = DelCon
 change_of (RuleAdd h body) = Rule
 change_of (RuleDrop r) = NoRule
 
@@ -51,5 +57,7 @@ edit_numbers (AttackDrop b a) = b ∷ a ∷ []
 edit_numbers (AsmAdd a c) = a ∷ c ∷ []
 edit_numbers (AsmDrop a) = a ∷ []
 edit_numbers (ConSet a c) = a ∷ c ∷ []
+edit_numbers (ConAdd a c) = a ∷ c ∷ []
+edit_numbers (ConDrop a c) = a ∷ c ∷ []
 edit_numbers (RuleAdd h body) = h ∷ body
 edit_numbers (RuleDrop r) = r ∷ []

@@ -44,6 +44,8 @@ fn edit_with(alloc: Global, change: EditWord, numbers: &[u32]) -> Result<Edit, M
         EditWord::Asm => Edit::AsmAdd(numbers[0], numbers[1]),
         EditWord::NoAsm => Edit::AsmDrop(numbers[0]),
         EditWord::Con => Edit::ConSet(numbers[0], numbers[1]),
+        EditWord::AddCon => Edit::ConAdd(numbers[0], numbers[1]),
+        EditWord::DelCon => Edit::ConDrop(numbers[0], numbers[1]),
         EditWord::Rule => Edit::RuleAdd(numbers[0], copied(alloc, &numbers[1..])?),
         EditWord::NoRule => Edit::RuleDrop(numbers[0]),
     })

@@ -14,12 +14,16 @@ pub enum EditWord {
     Att,
     /// `noatt B A`: an attack goes.
     NoAtt,
-    /// `asm A C`: an assumption comes, with its contrary.
+    /// `asm A C`: an assumption comes, with one contrary or none.
     Asm,
     /// `noasm A`: an assumption goes.
     NoAsm,
-    /// `con A C`: an assumption gets another contrary.
+    /// `con A C`: an assumption gets one contrary alone, or none.
     Con,
+    /// `addcon A C`: a contrary comes.
+    AddCon,
+    /// `delcon A C`: a contrary goes.
+    DelCon,
     /// `rule H B1 .. Bk`: a rule comes.
     Rule,
     /// `norule R`: a rule goes.
@@ -41,6 +45,8 @@ impl EditWord {
             b"asm" => Some(EditWord::Asm),
             b"noasm" => Some(EditWord::NoAsm),
             b"con" => Some(EditWord::Con),
+            b"addcon" => Some(EditWord::AddCon),
+            b"delcon" => Some(EditWord::DelCon),
             b"rule" => Some(EditWord::Rule),
             b"norule" => Some(EditWord::NoRule),
             _ => None,
@@ -59,6 +65,8 @@ impl EditWord {
             EditWord::Asm => "asm",
             EditWord::NoAsm => "noasm",
             EditWord::Con => "con",
+            EditWord::AddCon => "addcon",
+            EditWord::DelCon => "delcon",
             EditWord::Rule => "rule",
             EditWord::NoRule => "norule",
         }
@@ -70,7 +78,12 @@ impl EditWord {
     {
         match self {
             EditWord::Arg | EditWord::NoArg | EditWord::NoAsm | EditWord::NoRule => count == 1,
-            EditWord::Att | EditWord::NoAtt | EditWord::Asm | EditWord::Con => count == 2,
+            EditWord::Att
+            | EditWord::NoAtt
+            | EditWord::Asm
+            | EditWord::Con
+            | EditWord::AddCon
+            | EditWord::DelCon => count == 2,
             EditWord::Rule => count >= 1,
         }
     }

@@ -18,6 +18,8 @@ use Rattle.edit_rules.specs.declared.effect.EditFault.TheVariants.{
   AssumptionIsThere,
   NotFlat,
   UnknownAssumption,
+  ContraryIsThere,
+  NoSuchContrary,
   NoSuchRule,
   Memory,
 }
@@ -60,6 +62,8 @@ edit_fault_name NoSuchAttack = codes "NoSuchAttack"
 edit_fault_name AssumptionIsThere = codes "AssumptionIsThere"
 edit_fault_name (NotFlat n) = codes "NotFlat"
 edit_fault_name (UnknownAssumption n) = codes "UnknownAssumption"
+edit_fault_name ContraryIsThere = codes "ContraryIsThere"
+edit_fault_name NoSuchContrary = codes "NoSuchContrary"
 edit_fault_name (NoSuchRule n) = codes "NoSuchRule"
 edit_fault_name Memory = codes "Memory"
 
@@ -74,6 +78,8 @@ edit_fault_number NoSuchAttack = None
 edit_fault_number AssumptionIsThere = None
 edit_fault_number (NotFlat n) = Some n
 edit_fault_number (UnknownAssumption n) = Some n
+edit_fault_number ContraryIsThere = None
+edit_fault_number NoSuchContrary = None
 edit_fault_number (NoSuchRule n) = Some n
 edit_fault_number Memory = None
 

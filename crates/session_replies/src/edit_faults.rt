@@ -19,6 +19,8 @@ pub fn edit_fault_name(fault: EditFault) -> &'static str
         EditFault::AssumptionIsThere => "AssumptionIsThere",
         EditFault::NotFlat(_) => "NotFlat",
         EditFault::UnknownAssumption(_) => "UnknownAssumption",
+        EditFault::ContraryIsThere => "ContraryIsThere",
+        EditFault::NoSuchContrary => "NoSuchContrary",
         EditFault::NoSuchRule(_) => "NoSuchRule",
         EditFault::Memory => "Memory",
     }
@@ -39,6 +41,8 @@ pub fn edit_fault_number(fault: EditFault) -> Option<u32>
         | EditFault::AttackIsThere
         | EditFault::NoSuchAttack
         | EditFault::AssumptionIsThere
+        | EditFault::ContraryIsThere
+        | EditFault::NoSuchContrary
         | EditFault::Memory => None,
     }
 }

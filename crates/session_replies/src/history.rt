@@ -49,6 +49,8 @@ fn push_edit(alloc: Global, text: &mut String, edit: &Edit) -> Result<(), Memory
         Edit::AsmAdd(assumption, contrary) => write!(text, "asm {assumption} {contrary}")?,
         Edit::AsmDrop(assumption) => write!(text, "noasm {assumption}")?,
         Edit::ConSet(assumption, contrary) => write!(text, "con {assumption} {contrary}")?,
+        Edit::ConAdd(assumption, contrary) => write!(text, "addcon {assumption} {contrary}")?,
+        Edit::ConDrop(assumption, contrary) => write!(text, "delcon {assumption} {contrary}")?,
         Edit::RuleAdd(head, body) => push_rule(alloc, text, *head, body.as_slice())?,
         Edit::RuleDrop(rule) => write!(text, "norule {rule}")?,
     }

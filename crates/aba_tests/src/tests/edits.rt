@@ -1,7 +1,7 @@
 //! Edits of frameworks with rules: what each one tells and does, that it can be undone, and the last numbers of rules.
 //! The order of their refusals is a row of `argue_rows`.
 
-use crate::tests::aba_text::{Shown, framework_of, is_shown};
+use crate::tests::aba_text::{Rule, Shown, framework_of, is_shown};
 use aba_notions::{AbaPlain, RuleLists};
 use edit_rules::{
     Edit, EditFault, aba_edits_keep_form, aba_effects_determine, apply_aba, numbers_are_given_once,
@@ -18,22 +18,26 @@ pub(crate) enum Change<'a> {
     AsmAdd(u32, u32),
     AsmDrop(u32),
     ConSet(u32, u32),
+    ConAdd(u32, u32),
+    ConDrop(u32, u32),
     RuleAdd(u32, &'a [u32]),
     RuleDrop(u32),
 }
 
-/// What an effect tells: the rule's number, the contrary that went, and the head and the body of the rule that went; or
-/// why the edit is refused.
-type Told<'a> = Result<(u32, u32, u32, &'a [u32]), EditFault>;
+/// What an effect tells: the rule's number, the contraries that the assumption had, and the head and the body of the rule
+/// that went; or why the edit is refused.
+type Told<'a> = Result<(u32, &'a [u32], u32, &'a [u32]), EditFault>;
 
 /// What is told of an edit that gives no number and takes nothing away.
-const NOTHING: Told<'static> = Ok((0, 0, 0, &[]));
+const NOTHING: Told<'static> = Ok((0, &[], 0, &[]));
 
 pub(crate) fn edit_of(alloc: Global, change: Change<'_>) -> Result<Edit, Memory> {
     Ok(match change {
         Change::AsmAdd(assumption, contrary) => Edit::AsmAdd(assumption, contrary),
         Change::AsmDrop(assumption) => Edit::AsmDrop(assumption),
         Change::ConSet(assumption, contrary) => Edit::ConSet(assumption, contrary),
+        Change::ConAdd(assumption, contrary) => Edit::ConAdd(assumption, contrary),
+        Change::ConDrop(assumption, contrary) => Edit::ConDrop(assumption, contrary),
         Change::RuleAdd(head, body) => {
             Edit::RuleAdd(head, Items::from_vec(Vec::from_slice(alloc, body)?))
         }
@@ -46,7 +50,8 @@ fn ends_so(alloc: Global, framework: &mut AbaPlain, edit: &Edit, told: Told<'_>)
     match (apply_aba(alloc, framework, edit), told) {
         (Ok(effect), Ok((rule, gone, head, body))) => {
             effect.edit == *edit
-                && (effect.rule, effect.gone, effect.head) == (rule, gone, head)
+                && (effect.rule, effect.head) == (rule, head)
+                && effect.gone.as_slice() == gone
                 && effect.body.as_slice() == body
                 && effect.dropped.is_empty()
         }
@@ -80,36 +85,41 @@ fn follow(
 /// Two assumptions, each of which derives the contrary of the other.
 const RIVALS: &str = "p aba 4\na 1\na 2\nc 1 3\nc 2 4\nr 3 2\nr 4 1\n";
 
-const RIVALS_SHOWN: Shown<'static> = (4, &[(1, 3), (2, 4)], &[(1, 3, &[2]), (2, 4, &[1])], 3);
+const RIVALS_SHOWN: Shown<'static> = (4, &[(1, 3), (2, 4)], RIVALS_RULES, 3);
+
+const RIVALS_RULES: &[Rule<'static>] = &[(1, 3, &[2]), (2, 4, &[1])];
+
+/// The rivals, where one has two contraries more.
+const THREE_OF_ONE: Shown<'static> = (4, &[(1, 1), (1, 3), (1, 4), (2, 4)], RIVALS_RULES, 3);
 
 /// One edit after the other, with what it tells and the framework behind it.
 const CHANGES: &[Row] = &[
     (
         Change::ConSet(1, 4),
-        Ok((0, 3, 0, &[])),
+        Ok((0, &[3], 0, &[])),
         (4, &[(1, 4), (2, 4)], &[(1, 3, &[2]), (2, 4, &[1])], 3),
     ),
     (
         Change::ConSet(1, 4),
-        Ok((0, 4, 0, &[])),
+        Ok((0, &[4], 0, &[])),
         (4, &[(1, 4), (2, 4)], &[(1, 3, &[2]), (2, 4, &[1])], 3),
     ),
-    (Change::ConSet(1, 3), Ok((0, 4, 0, &[])), RIVALS_SHOWN),
+    (Change::ConSet(1, 3), Ok((0, &[4], 0, &[])), RIVALS_SHOWN),
     (
         Change::ConSet(2, 0),
-        Ok((0, 4, 0, &[])),
-        (4, &[(1, 3), (2, 0)], &[(1, 3, &[2]), (2, 4, &[1])], 3),
+        Ok((0, &[4], 0, &[])),
+        (4, &[(1, 3)], &[(1, 3, &[2]), (2, 4, &[1])], 3),
     ),
     (Change::ConSet(2, 4), NOTHING, RIVALS_SHOWN),
     (
         Change::AsmDrop(1),
-        Ok((0, 3, 0, &[])),
+        Ok((0, &[3], 0, &[])),
         (4, &[(2, 4)], &[(1, 3, &[2]), (2, 4, &[1])], 3),
     ),
     (Change::AsmAdd(1, 3), NOTHING, RIVALS_SHOWN),
     (
         Change::RuleDrop(1),
-        Ok((0, 0, 3, &[2])),
+        Ok((0, &[], 3, &[2])),
         (4, &[(1, 3), (2, 4)], &[(2, 4, &[1])], 3),
     ),
     (
@@ -119,37 +129,37 @@ const CHANGES: &[Row] = &[
     ),
     (
         Change::RuleAdd(3, &[2]),
-        Ok((3, 0, 0, &[])),
+        Ok((3, &[], 0, &[])),
         (4, &[(1, 3), (2, 4)], &[(2, 4, &[1]), (3, 3, &[2])], 4),
     ),
     (
         Change::RuleDrop(3),
-        Ok((0, 0, 3, &[2])),
+        Ok((0, &[], 3, &[2])),
         (4, &[(1, 3), (2, 4)], &[(2, 4, &[1])], 4),
     ),
     (
         Change::RuleAdd(4, &[3, 1, 3, 2, 1]),
-        Ok((4, 0, 0, &[])),
+        Ok((4, &[], 0, &[])),
         (4, &[(1, 3), (2, 4)], &[(2, 4, &[1]), (4, 4, &[1, 2, 3])], 5),
     ),
     (
         Change::RuleDrop(4),
-        Ok((0, 0, 4, &[1, 2, 3])),
+        Ok((0, &[], 4, &[1, 2, 3])),
         (4, &[(1, 3), (2, 4)], &[(2, 4, &[1])], 5),
     ),
     (
         Change::RuleDrop(2),
-        Ok((0, 0, 4, &[1])),
+        Ok((0, &[], 4, &[1])),
         (4, &[(1, 3), (2, 4)], &[], 5),
     ),
     (
         Change::AsmDrop(2),
-        Ok((0, 4, 0, &[])),
+        Ok((0, &[4], 0, &[])),
         (4, &[(1, 3)], &[], 5),
     ),
     (
         Change::RuleAdd(2, &[]),
-        Ok((5, 0, 0, &[])),
+        Ok((5, &[], 0, &[])),
         (4, &[(1, 3)], &[(5, 2, &[])], 6),
     ),
     (
@@ -159,7 +169,7 @@ const CHANGES: &[Row] = &[
     ),
     (
         Change::RuleDrop(5),
-        Ok((0, 0, 2, &[])),
+        Ok((0, &[], 2, &[])),
         (4, &[(1, 3)], &[], 6),
     ),
     (
@@ -172,6 +182,78 @@ const CHANGES: &[Row] = &[
         NOTHING,
         (4, &[(1, 3), (2, 2), (4, 1)], &[], 6),
     ),
+];
+
+/// One edit of contraries after the other, with what it tells and the framework behind it.
+const CONTRARIES: &[Row] = &[
+    (
+        Change::ConAdd(1, 4),
+        NOTHING,
+        (4, &[(1, 3), (1, 4), (2, 4)], RIVALS_RULES, 3),
+    ),
+    (Change::ConAdd(1, 1), NOTHING, THREE_OF_ONE),
+    (
+        Change::ConAdd(1, 3),
+        Err(EditFault::ContraryIsThere),
+        THREE_OF_ONE,
+    ),
+    (
+        Change::ConDrop(1, 2),
+        Err(EditFault::NoSuchContrary),
+        THREE_OF_ONE,
+    ),
+    (
+        Change::ConAdd(1, 0),
+        Err(EditFault::OutOfRange(0)),
+        THREE_OF_ONE,
+    ),
+    (
+        Change::ConDrop(1, 0),
+        Err(EditFault::OutOfRange(0)),
+        THREE_OF_ONE,
+    ),
+    (
+        Change::ConAdd(5, 0),
+        Err(EditFault::OutOfRange(5)),
+        THREE_OF_ONE,
+    ),
+    (
+        Change::ConDrop(3, 4),
+        Err(EditFault::UnknownAssumption(3)),
+        THREE_OF_ONE,
+    ),
+    (
+        Change::ConDrop(1, 3),
+        NOTHING,
+        (4, &[(1, 1), (1, 4), (2, 4)], RIVALS_RULES, 3),
+    ),
+    (Change::ConAdd(1, 3), NOTHING, THREE_OF_ONE),
+    (
+        Change::ConSet(1, 3),
+        Ok((0, &[1, 3, 4], 0, &[])),
+        RIVALS_SHOWN,
+    ),
+    (
+        Change::ConDrop(1, 3),
+        NOTHING,
+        (4, &[(2, 4)], RIVALS_RULES, 3),
+    ),
+    (
+        Change::ConSet(1, 0),
+        NOTHING,
+        (4, &[(2, 4)], RIVALS_RULES, 3),
+    ),
+    (
+        Change::ConAdd(2, 1),
+        NOTHING,
+        (4, &[(2, 1), (2, 4)], RIVALS_RULES, 3),
+    ),
+    (
+        Change::AsmDrop(2),
+        Ok((0, &[1, 4], 0, &[])),
+        (4, &[], RIVALS_RULES, 3),
+    ),
+    (Change::AsmAdd(2, 0), NOTHING, (4, &[], RIVALS_RULES, 3)),
 ];
 
 /// One assumption and no rule; the next rule gets the last number.
@@ -187,7 +269,7 @@ const LAST_NUMBERS: &[Row] = &[
     (Change::AsmAdd(1, 2), NOTHING, ONE_LEFT),
     (
         Change::RuleAdd(2, &[2, 1, 2]),
-        Ok((1_000_000, 0, 0, &[])),
+        Ok((1_000_000, &[], 0, &[])),
         MAX_RULE,
     ),
     (
@@ -207,7 +289,7 @@ const LAST_NUMBERS: &[Row] = &[
     ),
     (
         Change::RuleDrop(1_000_000),
-        Ok((0, 0, 2, &[1, 2])),
+        Ok((0, &[], 2, &[1, 2])),
         NONE_LEFT,
     ),
     (
@@ -232,6 +314,15 @@ fn changes(rt: HostRuntime) -> Result<(), Fail> {
         return Ok(());
     };
     follow(&rt, rt.alloc(), &mut framework, CHANGES)
+}
+
+#[test]
+fn contraries(rt: HostRuntime) -> Result<(), Fail> {
+    let Some(mut framework) = framework_of(rt.alloc(), RIVALS) else {
+        assert!(rt; false, "not read");
+        return Ok(());
+    };
+    follow(&rt, rt.alloc(), &mut framework, CONTRARIES)
 }
 
 /// The atoms 1 and 2 without an assumption or a rule, where the next rule gets the last number.

@@ -41,6 +41,8 @@ fn copies(rt: HostRuntime) -> Result<(), Fail> {
     let body = Items::from_vec(vec![in rt.alloc(); 1, 2]?);
     assert!(rt; is_copied(rt.alloc(), &Edit::RuleAdd(3, body))?);
     assert!(rt; is_copied(rt.alloc(), &Edit::ConSet(1, 2))?);
+    assert!(rt; is_copied(rt.alloc(), &Edit::ConAdd(1, 2))?);
+    assert!(rt; is_copied(rt.alloc(), &Edit::ConDrop(1, 2))?);
     Ok(())
 }
 

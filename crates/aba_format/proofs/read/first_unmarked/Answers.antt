@@ -1,4 +1,3 @@
-use Rattle.std.proofs.Common.{ap, arith, subst, sym, ◌∙◌}
 use Rattle.std.proofs.lemmas.List.Elements.{Contains-get_or}
 use Rattle.aba_format.proofs.GivenLemmas.{all_marked}
 use Rattle.aba_format.proofs.read.first_unmarked.Goals as goal

@@ -1,7 +1,6 @@
-use Rattle.std.proofs.Common.{◌≡◌, rules, sym, subst}
+use Rattle.std.proofs.Common.{rules}
 use Rattle.num_text.specs.Lines.{kept}
 use Rattle.af_format.specs.Headers.{aba_word, af_word, BeginWith, IsBadHeader}
-use Rattle.aba_format.specs.AbaText.{ReadsAs}
 use Rattle.aba_format.proofs.LineLemmas.{rise_behind}
 use Rattle.aba_format.proofs.FaultLemmas.{bad_header_told, bad_text, ReadsAs-faultless}
 use Rattle.aba_format.proofs.FinishLemmas.{framework_parts, reads_as}

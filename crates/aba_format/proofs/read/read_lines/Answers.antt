@@ -1,4 +1,4 @@
-use Rattle.std.proofs.Common.{inr, rules}
+use Rattle.std.proofs.Common.{inr}
 use Rattle.num_text.specs.Lines.{kept}
 use Rattle.aba_format.proofs.LineLemmas.{given_wide, whole, stray}
 use Rattle.aba_format.proofs.read.read_lines.Goals as goal

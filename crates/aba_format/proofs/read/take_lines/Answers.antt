@@ -1,7 +1,7 @@
 use Rattle.std.proofs.Common.{rules}
 use Rattle.num_text.specs.Lines.{kept}
 use Rattle.num_text.specs.Views.{line_text}
-use Rattle.aba_format.proofs.LineLemmas.{read_next, read_fault, read_none, read_all}
+use Rattle.aba_format.proofs.LineLemmas.{read_next, read_fault, read_none}
 use Rattle.aba_format.proofs.read.take_lines.Goals as goal
 
 pub loop-line-init : goal.loop-line-init

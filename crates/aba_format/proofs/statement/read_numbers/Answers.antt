@@ -1,6 +1,6 @@
-use Rattle.std.proofs.Common.{refl, subst, sym, rules}
+use Rattle.std.proofs.Common.{refl, rules}
 use Rattle.aba_format.proofs.FormCauses.{no_number_at}
-use Rattle.aba_format.proofs.NumberLists.{HasNumbers, left_is_text, numbers_next, takes_text}
+use Rattle.aba_format.proofs.NumberLists.{left_is_text, numbers_next, takes_text}
 use Rattle.aba_format.proofs.statement.read_numbers.Goals as goal
 
 pub returns-in_default-number-clause-err : goal.returns-in_default-number-clause-err

@@ -1,5 +1,4 @@
 use Rattle.std.proofs.Common.{◌≡◌, ◌++◌, ◌∷◌, take, map, codes, string_bytes}
-use Rattle.std.specs.Fmt.{decimal}
 use Rattle.aba_format.specs.Written.{spaced}
 use Rattle.aba_format.proofs.write.push_rule.Given as goal
 

@@ -1,4 +1,4 @@
-use Rattle.std.proofs.Common.{arith, ap, ◌∙◌, length, map}
+use Rattle.std.proofs.Common.{arith, ap, ◌∙◌, length}
 use Rattle.std.proofs.lemmas.List.{length-map}
 use Rattle.semantics.specs.Rules.{Rule}
 use Rattle.aba_format.proofs.write.push_rules.Goals as goal
