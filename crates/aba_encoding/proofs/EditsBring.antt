@@ -255,15 +255,15 @@ module _ (f : Aba) (a c : ℕ) (gone : List ℕ) (there : Contains f.assumptions
           ↔ (IsContraryStep set_to x i j × (IsContraryStep f x i j → ⊥))
       step_new i j = step_at f set_to a but_for_set i j
           (IsWalkStep (IsOnly c) i j × (IsWalkStep (Contains gone) i j → ⊥)) (
-        λ h. (
-          (there, same_step (IsOnly c) (HasContrary set_to a) only_is i j h.0),
-          λ old. h.1 (same_step (HasContrary f a) (Contains gone) is_before i j old.1),
-        ),
-        λ w. (
-          same_step (HasContrary set_to a) (IsOnly c) is_only i j w.0.1,
-          λ old. w.1 (there, same_step (Contains gone) (HasContrary f a) before_is i j old),
-        ),
-      )
+            λ h. (
+              (there, same_step (IsOnly c) (HasContrary set_to a) only_is i j h.0),
+              λ old. h.1 (same_step (HasContrary f a) (Contains gone) is_before i j old.1),
+            ),
+            λ w. (
+              same_step (HasContrary set_to a) (IsOnly c) is_only i j w.0.1,
+              λ old. w.1 (there, same_step (Contains gone) (HasContrary f a) before_is i j old),
+            ),
+          )
 
       end_new : (i x : ℕ) → ((x ≡ a) × (IsWalkEnd (IsOnly c) i × (IsWalkEnd (Contains gone) i → ⊥)))
           ↔ (IsContraryEnd set_to x i × (IsContraryEnd f x i → ⊥))

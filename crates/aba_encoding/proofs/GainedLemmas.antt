@@ -199,7 +199,7 @@ module _ (a c : ℕ) (under : c < 1000001) where
         (only_from (IsOf brought) step steps (λ t.
         let is = new_step.0 t in
         ((refl, only_step is.0, is.1), ((refl, only_step is.0, is.1), tt))) name)
-        (only_from (IsOf brought) end (contrary_end a (c + 1)) 
+        (only_from (IsOf brought) end (contrary_end a (c + 1))
         (λ t. ((refl, only_end, new_end.0 t), ((refl, only_end, new_end.0 t), tt))) name)
         (Contains-append_cases (only_if step steps) (only_if end (contrary_end a (c + 1))) name later))
         (Contains-append_cases (only_if pair pairs)
@@ -225,8 +225,11 @@ module _ (a c : ℕ) (under : c < 1000001) where
         (B18 k a 1 c)
         (Contains-append_left (only_if step steps) (only_if end (contrary_end a (c + 1))) (B18 k a 1 c)
         (only_there step steps (B18 k a 1 c)
-        (new_step.1 (is.1.stop.0, λ old. is.2 (subst (λ m. IsWalkStep (Contains gone) m j) (sym one.0)
-        (subst (λ m. IsWalkStep (Contains gone) 1 m) (sym one.1) old))))
+        (new_step.1 (
+          is.1.stop.0,
+          λ old. is.2 (subst (λ m. IsWalkStep (Contains gone) m j) (sym one.0)
+              (subst (λ m. IsWalkStep (Contains gone) 1 m) (sym one.1) old)),
+        ))
         (by_closure (λ k'. B18 k' a 1 c) [] [] k))))
 
     at_end : (k : Closure) (x i : ℕ) → (x ≡ a) × IsWalkEnd (IsOnly c) i × (IsWalkEnd (Contains gone) i → ⊥)
@@ -331,7 +334,8 @@ module _ (f : Aba) (form : IsNumberedAba f) (a c : ℕ) where
 
   module _ (start : ℕ) (place : IsPlaceBefore (HasContrary f a) c start) where
     one_place_is : (k : ℕ) → IsPlaceBefore (HasContrary f a) c k → k ≡ start
-    one_place_is k other = one_place (HasContrary f a) (contrary_low f form a) (contrary_under f form a) c start k place other
+    one_place_is k other =
+        one_place (HasContrary f a) (contrary_low f form a) (contrary_under f form a) c start k place other
 
     same_place : (k : ℕ) → k ≡ start → IsPlaceBefore (HasContrary f a) c k
     same_place k e = subst (IsPlaceBefore (HasContrary f a) c) (sym e) place

@@ -14,7 +14,7 @@ use Rattle.aba_laws.proofs.CollectiveSets.{defends_by_rest, rest_of}
 use Rattle.aba_laws.proofs.DerivationLemmas.{derives_more}
 use Rattle.semantics.specs.Frameworks.{aba}
 use Rattle.meaning_atoms.specs.declared.aba_axiom.AbaAxiom.{AbaAxiom}
-use Rattle.meaning_atoms.specs.declared.aba_axiom.AbaAxiom.TheVariants.{B1, B2, B3, B4, B5, B7, B8, B12, B13, B14, B15, B16, B18, B19}
+use Rattle.meaning_atoms.specs.declared.aba_axiom.AbaAxiom.TheVariants.{B1, B2, B3, B5, B7, B8, B12, B13, B14, B15, B16, B18, B19}
 use Rattle.meaning_atoms.specs.declared.atom.Atom.{Atom}
 use Rattle.meaning_atoms.specs.declared.atom.Atom.TheVariants.{Member, Range, Tail, Asm, Con, ConGap, Head, BGap, Der, Miss, Hit, Cf, Ad, Co, St}
 use Rattle.meaning_atoms.specs.declared.atom.AtomLit.{AtomLit}

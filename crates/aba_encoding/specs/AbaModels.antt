@@ -29,8 +29,8 @@ abbrev pub IsFounded : Aba → List AtomLit → List ℕ → Closure → Type 0
 IsFounded f values s k = (x : ℕ) → IsAtom f.atoms x → Affirms values (Der k x) → IsInClosure f s k x
 
 -- the set has each mode that the values affirm, each assumption is a member exactly where they affirm it, each atom is
--- in a closure of the set exactly where they affirm it, and the set attacks each assumption of which they affirm that it
--- has a contrary in the set's closure
+-- in a closure of the set exactly where they affirm it, and the set attacks each assumption of which they affirm that
+-- some contrary is in the set's own closure
 pub record DescribesInAba (f : Aba) (values : List AtomLit) (s : List ℕ) : Type 0 where
   pub modes : (mode : Atom) → IsMode mode → Affirms values mode → HoldsOfAba f s mode
   pub members : (a : ℕ) → Contains f.assumptions a → Affirms values (Member a) ↔ Contains s a

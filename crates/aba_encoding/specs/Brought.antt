@@ -88,7 +88,7 @@ pub record AreAtoms (list : List ℕ) : Type 0 where
   pub rise : IsStrictlyIncreasing list
   pub each : (y : ℕ) → Contains list y → IsArgument y
 
--- c as the only contrary of a, or none where c is 0, as far as the contraries that a had before hadn't this
+-- what a has with c as its only contrary, or with none where c is 0, and had not with the contraries that went
 abbrev pub by_contrary_set : ℕ → ℕ → List ℕ → Brought
 by_contrary_set a c gone = record {
   assumption = λ x. ⊥;

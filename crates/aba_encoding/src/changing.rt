@@ -22,7 +22,7 @@ use std::alloc::Global;
 
 /// The axioms that a search needs of a framework behind an edit and did not need before it. `plain` is the framework
 /// behind the edit, and `effect` what the edit did. They are those of the assumption, the contrary or the rule that
-/// came, and those of the steps round the contrary or the rule that came or went. The steps are found from its neighbours
+/// came, and those of the steps round the contrary or the rule that came or went. These are found from its neighbours
 /// among the contraries of the same assumption or the rules that head the same atom, in time logarithmic in these
 /// contraries and in the rules. `Memory` says that an allocation was refused.
 pub fn changed(alloc: Global, plain: &AbaPlain, effect: &Effect) -> Result<Items<AxiomName>, Memory>

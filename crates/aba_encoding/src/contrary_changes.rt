@@ -15,8 +15,8 @@ use meaning_atoms::Closure::{Own, Rest};
 use meaning_atoms::{AbaAxiom, AxiomName};
 use std::alloc::Global;
 
-/// Adds the axioms of the only contrary of an assumption, or of none where it is 0, with those of the walk along it, but
-/// for those that the contraries which the assumption had before called for.
+/// Adds the axioms of the only contrary of an assumption, or of none where it is 0, with those of the walk along it,
+/// but for those that the contraries which the assumption had before called for.
 pub(crate) fn push_set(
     alloc: Global,
     names: &mut Vec<AxiomName>,

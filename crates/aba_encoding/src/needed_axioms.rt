@@ -22,8 +22,8 @@ use std::alloc::Global;
 /// The axioms that a search needs of a framework, each once: a model of these axioms that derives nothing unfounded,
 /// and in which the framework's facts have their values, means a set of assumptions with each notion that the model
 /// calls true. Time and memory are linear in the assumptions, their contraries, the atoms and the rules with their
-/// bodies: five axioms of all, six of each assumption, five of each contrary of one, five of each atom, six of each rule
-/// and four of each atom in a body. `Memory` says that an allocation was refused.
+/// bodies: five axioms of all, six of each assumption, five of each contrary of one, five of each atom, six of each
+/// rule and four of each atom in a body. `Memory` says that an allocation was refused.
 pub fn needed(alloc: Global, plain: &AbaPlain) -> Result<Items<AxiomName>, Memory>
     ensures all { IfOk result (Enumerates (IsNeeded (aba plain.now))) }
     ensures names { IfOk result (All IsAxiomName) }

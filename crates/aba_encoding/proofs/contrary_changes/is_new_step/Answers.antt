@@ -1,4 +1,4 @@
-use Rattle.std.proofs.Common.{◌≡◌, get_or, subst, sym}
+use Rattle.std.proofs.Common.{◌≡◌, subst, sym}
 use Rattle.std.specs.Prelude.{Contains, ◌↔◌}
 use Rattle.oracle_face.specs.Walks.{IsWalkStep}
 use Rattle.aba_encoding.proofs.SetLemmas.{first_is, other_than, never_under, under_condition}
