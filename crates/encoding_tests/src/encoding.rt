@@ -6,7 +6,8 @@ use aba_format::read_aba;
 use aba_notions::AbaPlain;
 use lists::{Items, Memory};
 use meaning_atoms::Atom::{
-    Ask, Asm, Attack, BGap, Body, Cf, Con, Der, Gap, HGap, Head, Live, Member, Miss, Sup,
+    Ask, Asm, Attack, BGap, Body, Cf, Con, ConGap, Der, Gap, HGap, Head, Hit, Live, Member, Miss,
+    Sup,
 };
 use meaning_atoms::Closure::{Own, Rest};
 use meaning_atoms::{Atom, AtomLit, AxiomName, END, push_axiom};
@@ -55,19 +56,27 @@ const CROSSED_AXIOMS: &[&str] = &[
     "B16 2",
     "B16 3",
     "B2 1",
-    "B3 1 3",
+    "B3 1",
+    "B14 1",
+    "B15 1",
     "B9 3 1 3",
     "B12 1 3",
     "B13 1 3",
-    "B14 1 3",
-    "B15 1 3",
+    "B18 1 1 1 3",
+    "B18 2 1 1 3",
+    "B19 1 1 4",
+    "B19 2 1 4",
     "B2 2",
-    "B3 2 4",
+    "B3 2",
+    "B14 2",
+    "B15 2",
     "B9 3 2 4",
     "B12 2 4",
     "B13 2 4",
-    "B14 2 4",
-    "B15 2 4",
+    "B18 1 2 1 4",
+    "B18 2 2 1 4",
+    "B19 1 2 5",
+    "B19 2 2 5",
     "B5 1 1 3",
     "B5 2 1 3",
     "B6 1 1 2",
@@ -126,17 +135,19 @@ const CIRCULAR_AXIOMS: &[&str] = &[
     "B11 1 4 3",
 ];
 
-/// Texts, how many axioms their frameworks need, and some of these: five of all, seven of each assumption, five of each
-/// atom, six of each rule, and four of each atom of a body.
+/// Texts, how many axioms their frameworks need, and some of these: five of all, six of each assumption, five of each
+/// contrary of one, five of each atom, six of each rule, and four of each atom of a body.
 const NEEDED: &[(&str, usize, &[&str])] = &[
-    (CROSSED, 59, CROSSED_AXIOMS),
-    (CIRCULAR, 59, CIRCULAR_AXIOMS),
+    (CROSSED, 67, CROSSED_AXIOMS),
+    (CIRCULAR, 67, CIRCULAR_AXIOMS),
     ("p aba 0\n", 5, &["B4 1", "B4 2", "B16 3"]),
     (
         "p aba 3\na 1\nr 3\nr 3 1 2\n",
-        47,
+        46,
         &[
-            "B3 1 0",
+            "B3 1",
+            "B19 1 1 1",
+            "B19 2 1 1",
             "B8 1 1 1",
             "B8 2 2 3",
             "B7 1 2 1 1",
@@ -144,6 +155,17 @@ const NEEDED: &[(&str, usize, &[&str])] = &[
             "B10 1 3 1 1",
             "B10 2 3 2 2",
             "B11 1 3 3",
+        ],
+    ),
+    (
+        "p aba 3\na 1\nc 1 3\nc 1 2\n",
+        36,
+        &[
+            "B9 3 1 2",
+            "B12 1 3",
+            "B18 1 1 1 2",
+            "B18 2 1 3 3",
+            "B19 2 1 4",
         ],
     ),
 ];
@@ -193,6 +215,10 @@ const FACTS: &[(Atom, Option<bool>)] = &[
     (Con(1, 3), Some(true)),
     (Con(1, 4), Some(false)),
     (Con(3, 0), Some(false)),
+    (ConGap(1, 1, 3), Some(true)),
+    (ConGap(1, 1, 4), Some(false)),
+    (ConGap(1, 4, END), Some(true)),
+    (ConGap(3, 1, END), Some(false)),
     (Head(1, 3), Some(true)),
     (Head(2, 3), Some(false)),
     (Head(3, 3), Some(false)),
@@ -213,6 +239,7 @@ const FACTS: &[(Atom, Option<bool>)] = &[
     (Der(Own, 3), None),
     (Miss(Rest, 1, 1), None),
     (Sup(Own, 3, 1), None),
+    (Hit(Own, 1, 1), None),
     (Cf, None),
     (Ask(1), None),
     (Live(1), None),
