@@ -35,6 +35,7 @@ use crate::searched::Searched;
 use crate::side_table::SideTable;
 use crate::tables::{
     assume_facts, assume_some, over_atoms, packed_over_atoms, prefer_attacks, push_lits_for,
+    reset_phases,
 };
 use atom_table::AtomTable;
 use certificate_claims::clause_of_axiom;
@@ -372,7 +373,7 @@ impl SolverParts {
         ensures in_hand { (count : ℕ) → result ≡ Err (Halt.Spent count) → IsNoLoop self.new.pending }
         ensures log { StaysLog (state_of self.old).log (state_of self.new).log }
     {
-        self.solver.reset_phases();
+        reset_phases(&self.table, &mut self.solver, &self.assumed);
         let _different = self.table.len();
         let _before = self.solver.log().len();
         let end = self.solver.solve(self.assumed.as_slice(), budget);

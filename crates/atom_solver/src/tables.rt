@@ -102,7 +102,7 @@ pub(crate) fn push_lits_for(
     Ok(())
 }
 
-/// Has a search decide before members that the set attacks what the literal says it attacks.
+/// Has a search decide before members that the set attacks, or has in its range, what the literal says so of.
 fn prefer_attack(table: &AtomTable, solver: &mut Solver, lit: Lit) -> Result<(), Memory>
     ensures { solver.new ≡ solver.old }
 {
@@ -110,7 +110,7 @@ fn prefer_attack(table: &AtomTable, solver: &mut Solver, lit: Lit) -> Result<(),
         return Ok(());
     }
     match table.atom_at(lit.var) {
-        Atom::Tail(_, _) => solver.prioritize(lit),
+        Atom::Tail(_, _) | Atom::Range(_) => solver.prioritize(lit),
         _ => Ok(()),
     }
 }
@@ -127,6 +127,27 @@ pub(crate) fn prefer_attacks(
         prefer_attack(table, solver, *lit)?;
     }
     Ok(())
+}
+
+/// Whether a literal wants a conflict-free set, or something in the range.
+fn wants_range(table: &AtomTable, lit: Lit) -> bool {
+    if !lit.positive || lit.var >= table.len() {
+        return false;
+    }
+    matches!(table.atom_at(lit.var), Atom::Cf | Atom::Range(_))
+}
+
+/// Has a search begin with members true, unless it is for a conflict-free set or for a range: such a search goes on
+/// from the last set, of which nearly all can stay.
+pub(crate) fn reset_phases(table: &AtomTable, solver: &mut Solver, assumed: &Vec<Lit>)
+    ensures { solver.new ≡ solver.old }
+{
+    for lit in assumed.as_slice() {
+        if wants_range(table, *lit) {
+            return;
+        }
+    }
+    solver.reset_phases();
 }
 
 /// Finds the literals of all variables that stand for facts, as the framework has them.
