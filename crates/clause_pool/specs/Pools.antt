@@ -24,9 +24,17 @@ index_of token = token.pushed.index
 abbrev pub AreTokensOf : Pool → List Token → Type 0
 AreTokensOf pool tokens = All (IsTokenOf pool) tokens
 
--- the pool is the same, and where the tokens were all its own, they are now
-abbrev pub HoldsMore : Pool → List Token → Pool → List Token → Type 0
-HoldsMore old before new after = (new ≡ old) × (AreTokensOf old before → AreTokensOf old after)
+-- the tokens stand at the indexes from the first one on, one after the other, and this is the next index
+pub record AreInRow (first : ℕ) (tokens : List Token) (next : ℕ) : Type 0 where
+  pub each : (k : ℕ) (d : Token) → k < length tokens → index_of (slice_index_or tokens k d) ≡ first + k
+  pub next_is : next ≡ first + length tokens
+
+-- the pool is the same; where the tokens were all its own, they are now; and where they were in a row, they are now
+pub record HoldsMore (old : Pool) (before : List Token) (low : ℕ) (new : Pool) (after : List Token) (high : ℕ) : Type 0
+  where
+    pub same : new ≡ old
+    pub own : AreTokensOf old before → AreTokensOf old after
+    pub row : (first : ℕ) → AreInRow first before low → AreInRow first after high
 
 -- the entries stand at the indexes from the first on, one after the other
 abbrev pub AreFrom : ℕ → List Pooled → Type 0

@@ -1,9 +1,9 @@
 //! A trade over a pool, for a caller that has no runtime at hand.
 
-ghost use Rattle.std.specs.Prelude.{◌≡◌, ◌+◌, [], ◌∷◌, ◌++◌, map, true, None, IfOk, IfErr, IfSome, OnErr, OnOk};
+ghost use Rattle.std.specs.Prelude.{◌≡◌, ◌+◌, ℕ, [], ◌∷◌, ◌++◌, map, true, None, IfOk, IfErr, IfSome, OnErr, OnOk};
 ghost use Rattle.oracle_face.specs.Entries.{IsShareable};
 ghost use Rattle.oracle_face.specs.Trades.{GivesMore};
-ghost use Rattle.clause_pool.specs.Pools.{AreTokensOf, HoldsMore, IsTokenOf, entry_of};
+ghost use Rattle.clause_pool.specs.Pools.{AreInRow, AreTokensOf, HoldsMore, IsTokenOf, entry_of, index_of};
 
 use crate::pool::Pool;
 use crate::pooled::Token;
@@ -63,6 +63,8 @@ fn keep(pool: &Pool, tokens: &mut Items<Token>, token: Token) -> Result<(), Memo
     ensures ok { OnOk result (tokens.new ≡ tokens.old ++ token ∷ []) }
     ensures err { OnErr result (tokens.new ≡ tokens.old) }
     ensures shown { AreTokensOf pool.now tokens.old → AreTokensOf pool.now tokens.new }
+    ensures row { OnOk result ((first : ℕ) → AreInRow first tokens.old (index_of token)
+        → AreInRow first tokens.new (index_of token + 1)) }
 {
     tokens.push(token)?;
     Ok(())
@@ -79,7 +81,8 @@ impl<'a, R: Wait> ClauseTrade for PoolTrade<'a, R> {
 
     ghost gave = { λ t. map entry_of t.taken };
 
-    ghost follows = { λ before after. HoldsMore before.pool.now before.taken after.pool.now after.taken };
+    ghost follows = { λ before after. HoldsMore before.pool.now before.taken before.next after.pool.now after.taken
+        after.next };
 
     fn offer(&mut self, entry: Entry) -> Result<bool, Entry>
         requires { IsShareable entry }
@@ -87,7 +90,8 @@ impl<'a, R: Wait> ClauseTrade for PoolTrade<'a, R> {
         ensures back { IfErr result (λ back. back ≡ entry) }
         ensures next { self.new.next ≡ self.old.next }
         ensures taken { self.new.taken ≡ self.old.taken }
-        ensures follows { HoldsMore self.old.pool.now self.old.taken self.new.pool.now self.new.taken }
+        ensures follows { HoldsMore self.old.pool.now self.old.taken self.old.next self.new.pool.now self.new.taken
+            self.new.next }
     {
         let _token = self.pool.share(self.rt, entry)?;
         Ok(true)
@@ -100,7 +104,8 @@ impl<'a, R: Wait> ClauseTrade for PoolTrade<'a, R> {
         ensures given { IfOk result (λ taken. IfSome taken (λ _. self.new.next ≡ self.old.next + 1)) }
         ensures err { OnErr result (self.new.next ≡ self.old.next) }
         ensures gave { GivesMore (map entry_of self.old.taken) result (map entry_of self.new.taken) }
-        ensures follows { HoldsMore self.old.pool.now self.old.taken self.new.pool.now self.new.taken }
+        ensures follows { HoldsMore self.old.pool.now self.old.taken self.old.next self.new.pool.now self.new.taken
+            self.new.next }
     {
         let Some(after) = self.next.checked_add(1) else {
             return Ok(None);
@@ -114,11 +119,12 @@ impl<'a, R: Wait> ClauseTrade for PoolTrade<'a, R> {
         Ok(Some(entry))
     }
 
-    ghost stays = { λ _. (refl, λ are. are) };
+    ghost stays = { λ _. record { same = refl; own = λ are. are; row = λ first are. are } };
 
-    ghost joins = { λ before between after first second. (
-      second.0 ∙ first.0,
-      λ are. subst (λ pool. AreTokensOf pool after.taken) first.0
-          (second.1 (subst (λ pool. AreTokensOf pool between.taken) (sym first.0) (first.1 are))),
-    ) };
+    ghost joins = { λ before between after first second. record {
+      same = second.same ∙ first.same;
+      own = λ are. subst (λ pool. AreTokensOf pool after.taken) first.same
+          (second.own (subst (λ pool. AreTokensOf pool between.taken) (sym first.same) (first.own are)));
+      row = λ from are. second.row from (first.row from are);
+    } };
 }
