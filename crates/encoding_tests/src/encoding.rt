@@ -6,7 +6,8 @@ use aba_format::read_aba;
 use aba_notions::AbaPlain;
 use lists::{Items, Memory};
 use meaning_atoms::Atom::{
-    Ask, Asm, Attack, BGap, Body, Cf, Con, ConGap, Der, Gap, HGap, Head, Hit, Live, Member, Miss, Sup,
+    Ask, Asm, Attack, BGap, Body, Cf, Con, ConGap, Der, Gap, HGap, Head, Hit, Live, Member, Miss,
+    Sup,
 };
 use meaning_atoms::Closure::{Own, Rest};
 use meaning_atoms::{Atom, AtomLit, AxiomName, END, push_axiom};
