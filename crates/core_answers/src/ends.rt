@@ -1,11 +1,11 @@
 //! Whether a query may end with an outcome.
 
-ghost use Rattle.std.specs.Prelude.{◌≡◌, ◌↔◌, ◌≤◌, ◌*◌, ◌+◌, count_by, drop, length, IfOk, IsTrue};
+ghost use Rattle.std.specs.Prelude.{◌≡◌, ◌↔◌, ◌≤◌, ◌*◌, ◌+◌, count_by, drop, false, length, IfOk, IsTrue};
 ghost use Rattle.edit_rules.specs.Fitting.{Fits, IsFaultOf};
 ghost use Rattle.edit_rules.specs.Kinds.{framework_of};
 ghost use Rattle.oracle_face.specs.Growing.{IsSpent};
 ghost use Rattle.oracle_face.specs.Logs.{is_unit};
-ghost use Rattle.session_log.specs.Ends.{IsByGrounded, LoopInHand, MadeFor, MayStop};
+ghost use Rattle.session_log.specs.Ends.{LoopInHand, MadeFor, MayStop, is_by_grounded};
 ghost use Rattle.core_answers.specs.Outcomes.{Comes, EndsFit, EndsSo};
 ghost use Rattle.core_logs.specs.Tests.{AreNamed};
 ghost use Rattle.core_answers.specs.Serving.{HasServed};
@@ -44,9 +44,10 @@ fn fits(framework: &Framework, query: &Query) -> bool
 
 /// Whether the grounded set doesn't answer a task, so that a spent budget or a full log may stop its queries.
 fn may_stop(task: Task) -> bool
-    ensures { IsTrue result ↔ (IsByGrounded task.problem task.semantics → ⊥) }
+    ensures { IsTrue result ↔ (is_by_grounded task.problem task.semantics ≡ false) }
 {
     match (task.problem, task.semantics) {
+        (Problem::AllExtensions, _) => true,
         (_, Semantics::Grounded) => false,
         (Problem::Sceptical | Problem::SomeExtension, Semantics::Complete) => false,
         _ => true,

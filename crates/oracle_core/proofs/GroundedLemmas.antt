@@ -22,7 +22,8 @@ use Rattle.certificate_claims.proofs.ExtensionFacts.{extension_members, grounded
 use Rattle.certificate_claims.proofs.KindFacts.{admissible_members, numbered_members}
 use Rattle.certificate_claims.proofs.Agreeing.{agrees_with_right}
 use Rattle.certificate_claims.proofs.Right.{accepted_right}
-use Rattle.query_answers.specs.Answers.{IsSaid, is_by_grounded}
+use Rattle.session_log.specs.Ends.{is_by_grounded}
+use Rattle.query_answers.specs.Answers.{IsSaid}
 use Rattle.oracle_core.specs.Answers.{IsAnswerBy, IsShownBy, answer_by, no_certificate}
 
 -- ---- certificates without claims

@@ -10,7 +10,8 @@ use Rattle.atom_solver.specs.declared.origin.Origin.{Origin}
 use Rattle.atom_solver.specs.declared.origin.Origin.TheVariants.{Axiom, Side, Entry, Hints}
 use Rattle.certificate_making.specs.declared.read_log.StepOrigin.{StepOrigin}
 use Rattle.certificate_making.specs.declared.read_log.StepOrigin.TheVariants.{Axiom as OfAxiom, Side as OfSide, Derived}
-use Rattle.query_answers.specs.Answers.{AreTooMany, is_by_grounded}
+use Rattle.session_log.specs.Ends.{is_by_grounded}
+use Rattle.query_answers.specs.Answers.{AreTooMany}
 use Rattle.oracle_core.specs.declared.reply.Answered.{Answered}
 use Rattle.oracle_core.specs.declared.reply.AnswerStop.{AnswerStop}
 use Rattle.oracle_core.specs.declared.reply.AnswerStop.TheVariants.{Query, Spent, TooMany, LogFull, Memory}

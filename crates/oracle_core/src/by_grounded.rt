@@ -6,8 +6,8 @@ ghost use Rattle.iccma_tasks.specs.Tasks.{FitsTask};
 ghost use Rattle.edit_rules.specs.Kinds.{framework_of};
 ghost use Rattle.oracle_core.specs.Answers.{IsAnswerBy, IsShownBy, answer_by, no_certificate};
 ghost use Rattle.oracle_face.specs.Logs.{OracleLog};
+ghost use Rattle.session_log.specs.Ends as ends;
 ghost use Rattle.session_log.specs.Ends.{IsShownBy as IsShownByLog};
-ghost use Rattle.query_answers.specs.Answers as answers;
 
 use crate::engine::accepts;
 use crate::reply::Answered;
@@ -21,7 +21,7 @@ use std::alloc::Global;
 /// Whether the grounded set answers a task: those of the grounded semantics, whether all complete sets accept an argument,
 /// and some complete set.
 pub fn is_by_grounded(task: Task) -> bool
-    ensures { result ≡ answers.is_by_grounded task.problem task.semantics }
+    ensures { result ≡ ends.is_by_grounded task.problem task.semantics }
 {
     match (task.problem, task.semantics) {
         (Problem::AllExtensions, _) => false,
@@ -112,7 +112,7 @@ pub fn answer_by_grounded(
     ensures by_log { IfOk result (λ found. IfSome found (λ a. (log : OracleLog)
         → IsShownByLog (framework_of framework.now) query.now a.answer a.certificate.sets log)) }
     ensures others { IfOk result (λ found. IsNone found
-        ↔ (answers.is_by_grounded query.now.task.problem query.now.task.semantics ≡ false)) }
+        ↔ (ends.is_by_grounded query.now.task.problem query.now.task.semantics ≡ false)) }
 {
     let task = query.task();
     let answered = is_by_grounded(task);

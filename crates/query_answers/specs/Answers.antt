@@ -9,7 +9,7 @@ use Rattle.meaning_atoms.specs.Worlds.{HoldsOf}
 use Rattle.iccma_tasks.specs.declared.task.Problem.{Problem}
 use Rattle.iccma_tasks.specs.declared.task.Problem.TheVariants.{Credulous, Sceptical, SomeExtension, AllExtensions}
 use Rattle.iccma_tasks.specs.declared.task.Semantics.{Semantics}
-use Rattle.iccma_tasks.specs.declared.task.Semantics.TheVariants.{Complete, Grounded, Preferred}
+use Rattle.iccma_tasks.specs.declared.task.Semantics.TheVariants.{Complete, Preferred}
 use Rattle.iccma_tasks.specs.Tasks.{Asked, task_of}
 use Rattle.certificate_claims.specs.Acceptance.{Tests}
 use Rattle.certificate_claims.specs.Claims.{claims, row_of, sets_of}
@@ -19,7 +19,7 @@ use Rattle.oracle_face.specs.declared.face.Found.TheVariants.{Set, Refuted}
 use Rattle.oracle_face.specs.declared.oracle.Oracle.{Ghosts as OracleWords}
 use Rattle.oracle_face.specs.Logs.{OracleLog}
 use Rattle.goal_lists.specs.Runs.{RanInAll}
-use Rattle.session_log.specs.Ends.{AreTooMany as ShownAreTooMany, MadeFor}
+use Rattle.session_log.specs.Ends.{AreTooMany as ShownAreTooMany, MadeFor, is_by_grounded}
 use Rattle.edit_rules.specs.Fitting.{Fits}
 use Rattle.enumerate_block.specs.Ranges.{AreRefuted}
 use Rattle.query_answers.specs.declared.evidence.Evidence.{Evidence}
@@ -44,16 +44,6 @@ IsOutcome f asked most log (Shown evidence) = IsEvidence f asked log evidence
 IsOutcome f asked most log TooMany = AreTooMany f asked most log
 
 -- ---- tasks
-
--- the tasks that need no search: the grounded set is the one extension of its semantics, and it is part of each
--- complete set and one itself (Dung 1995, theorem 25)
-abbrev pub is_by_grounded : Problem → Semantics → Bool
-is_by_grounded Credulous Grounded = true
-is_by_grounded Sceptical Grounded = true
-is_by_grounded SomeExtension Grounded = true
-is_by_grounded Sceptical Complete = true
-is_by_grounded SomeExtension Complete = true
-is_by_grounded problem semantics = false
 
 -- one set answers the problem, or that there is none
 abbrev pub IsOne : Problem → Type 0

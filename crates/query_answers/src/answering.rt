@@ -4,8 +4,8 @@ ghost use Rattle.std.specs.Prelude.{◌≡◌, ◌+◌, ◌*◌, false, length, 
 ghost use Rattle.edit_rules.specs.Fitting.{Fits};
 ghost use Rattle.oracle_face.specs.Growing.{HasRun, halt_of};
 ghost use Rattle.oracle_face.specs.Logs.{IsKept};
-ghost use Rattle.session_log.specs.Ends.{MadeFor};
-ghost use Rattle.query_answers.specs.Answers.{AsksOne, IsEvidence, IsOutcome, RanFor, is_by_grounded};
+ghost use Rattle.session_log.specs.Ends.{MadeFor, is_by_grounded};
+ghost use Rattle.query_answers.specs.Answers.{AsksOne, IsEvidence, IsOutcome, RanFor};
 
 use crate::all::all_extensions;
 use crate::complete_stable::{complete, stable};

@@ -1,5 +1,5 @@
 -- How a query may end: what serves it while it is worked on, and what an answer or a stop rests on.
-use Rattle.std.specs.Prelude.{◌≡◌, ℕ, ◌+◌, ◌*◌, ◌<◌, ◌≤◌, true, false, List, [], ◌∷◌, length, take, Contains}
+use Rattle.std.specs.Prelude.{◌≡◌, ℕ, ◌+◌, ◌*◌, ◌<◌, ◌≤◌, Bool, true, false, List, [], ◌∷◌, length, take, Contains}
 use Rattle.std.specs.Prelude.{slice_index_or, Option, Some, None, Ok}
 use Rattle.plain_lits.specs.declared.halt.Halt.{Halt}
 use Rattle.plain_lits.specs.declared.halt.Halt.TheVariants.{LogFull, Spent}
@@ -16,7 +16,7 @@ use Rattle.meaning_atoms.specs.Worlds.{HoldsOf}
 use Rattle.iccma_tasks.specs.declared.answer.Answer.{Answer}
 use Rattle.iccma_tasks.specs.declared.answer.Answer.TheVariants.{Sets}
 use Rattle.iccma_tasks.specs.declared.task.Problem.{Problem}
-use Rattle.iccma_tasks.specs.declared.task.Problem.TheVariants.{Sceptical, SomeExtension, AllExtensions}
+use Rattle.iccma_tasks.specs.declared.task.Problem.TheVariants.{Credulous, Sceptical, SomeExtension, AllExtensions}
 use Rattle.iccma_tasks.specs.declared.task.Semantics.{Semantics}
 use Rattle.iccma_tasks.specs.declared.task.Semantics.TheVariants.{Complete, Grounded, Preferred, Stable, SemiStable}
 use Rattle.iccma_tasks.specs.declared.task.Semantics.TheVariants.{Ideal, Stage}
@@ -131,16 +131,19 @@ pub record AreTooMany (f : Framework) (asked : Asked) (most : ℕ) (log : Oracle
 
 -- ---- how it ends
 
--- the grounded set answers the task, which takes no step of the log
-abbrev pub IsByGrounded : Problem → Semantics → Type 0
-IsByGrounded problem Grounded = Unit {0}
-IsByGrounded Sceptical Complete = Unit {0}
-IsByGrounded SomeExtension Complete = Unit {0}
-IsByGrounded problem semantics = ⊥
+-- the tasks that need no search, and so no step of the log: the grounded set is the one extension of its semantics, and
+-- it is part of each complete set and one itself (Dung 1995, theorem 25)
+abbrev pub is_by_grounded : Problem → Semantics → Bool
+is_by_grounded Credulous Grounded = true
+is_by_grounded Sceptical Grounded = true
+is_by_grounded SomeExtension Grounded = true
+is_by_grounded Sceptical Complete = true
+is_by_grounded SomeExtension Complete = true
+is_by_grounded problem semantics = false
 
 -- the grounded set doesn't answer the task, so that a spent budget or a full log may stop its queries
 abbrev pub MayStop : Asked → Type 0
-MayStop asked = IsByGrounded asked.task.problem asked.task.semantics → ⊥
+MayStop asked = is_by_grounded asked.task.problem asked.task.semantics ≡ false
 
 -- a fault; an answer with the sets of its certificate; that the budget was spent, at a number of units; these
 -- extensions, which are more than may be listed; or that the log was full
