@@ -1,10 +1,11 @@
 -- Each session of a transcript is a run of the core.
-use Rattle.std.proofs.Common.{arith, ◌≡◌, ℕ, ◌+◌, ◌==◌, ◌<◌, ◌≤◌, List, [], ◌∷◌, ◌++◌, refl, sym, ap, subst, ◌∙◌}
-use Rattle.std.proofs.Common.{length, take, get_or, Ok}
-use Rattle.std.specs.Prelude.{Contains, Option, Some}
+use Rattle.std.proofs.Common.{arith, ◌≡◌, ℕ, zero, suc, ◌+◌, ◌==◌, ◌<◌, ◌≤◌, List, [], ◌∷◌, ◌++◌, refl, sym, ap, subst}
+use Rattle.std.proofs.Common.{◌∙◌, length, take, get_or, Ok}
+use Rattle.std.specs.Prelude.{Contains, Option, Some, option_map, slice_get, slice_index_or}
 use Rattle.std.proofs.lemmas.Bool.{cond_both, eqb-true}
 use Rattle.std.proofs.lemmas.List.{append-nil, append_assoc, get_or-map, length-append, length-map}
-use Rattle.std.proofs.lemmas.List.Elements.{Contains-push, filter-append}
+use Rattle.std.proofs.lemmas.List.Elements.{Contains-append_left, Contains-append_right, Contains-push, filter-append}
+use Rattle.std.proofs.lemmas.Option.{slice_get-get_or}
 use Rattle.std.proofs.Math.Seq.{take-append_seam}
 use mathlib.Core.List.{IsPrefix}
 use Rattle.semantics.specs.Frameworks.{Framework}
@@ -19,7 +20,7 @@ use Rattle.edit_history.specs.Entries.{AreDone, entries_in, entry_of as of_chang
 use Rattle.edit_history.specs.Hubs.{GainsOthers}
 use Rattle.oracle_face.specs.declared.entry.Entry.{Entry as PoolEntry}
 use Rattle.oracle_face.specs.Logs.{OracleLog}
-use Rattle.clause_pool.specs.Pools.{entry_of, index_of}
+use Rattle.clause_pool.specs.Pools.{AreInRow, entry_of, index_of}
 use Rattle.script_text.specs.declared.script.ScriptCommand.{ScriptCommand}
 use Rattle.script_text.specs.declared.script.ScriptCommand.TheVariants.{Edit as change_by, Ask}
 use Rattle.script_text.specs.declared.script.ScriptLine.{ScriptLine}
@@ -33,12 +34,14 @@ use Rattle.semantics.specs.declared.limits.TheConstants.{MAX_EXTENSIONS}
 use Rattle.session_core.specs.CoreRuns.{HasPooled, IsAtRest, IsQueryOn, StandsAt}
 use Rattle.session_core.specs.EditRuns.{added_by}
 use Rattle.session_core.specs.Replies.{EditSays}
+use Rattle.session_core.specs.Sessions.{tokens_of}
+use Rattle.clause_pool.specs.declared.pooled.Token.{Token}
 use Rattle.session_core.specs.declared.kept.KeptAnswer.{KeptAnswer}
 use Rattle.session_core.proofs.AskRuns.{queries_run}
 use Rattle.session_core.proofs.EditRunLemmas.{edits_run, with_room}
 use Rattle.session_core.proofs.FollowingLemmas.{taken_at}
 use Rattle.hinted_log.specs.declared.log.TheConstants.{MAX_STEPS}
-use Rattle.bench_runs.specs.CoreWalks.{RunsLine, RunsLines, SessionsAreRuns, commits_of}
+use Rattle.bench_runs.specs.CoreWalks.{RunsLine, RunsLines, SessionsAreRuns, begun, commits_of}
 use Rattle.bench_runs.specs.Served.{made_by}
 use Rattle.bench_runs.specs.declared.script_run.TheConstants.{MAX_HISTORY}
 use Rattle.bench_runs.specs.Walks.{DoesCommand, DoesEdit, DoesQuery, Stand, Walks, at_start}
@@ -360,33 +363,65 @@ module _ (f : Framework) (limit budget s : ℕ) (changes : List Change) (done : 
       let rest = lines_run lines replies first.0 mid new first.2 walks.2 on keep in
       (rest.0, (first.0, first.1, rest.1), rest.2)
 
+-- ---- the beginning
+
+-- a token that is kept of a query is among all
+among_tokens : (answers : List KeptAnswer) (kept : KeptAnswer) (token : Token) → Contains answers kept
+    → Contains kept.tokens token → Contains (tokens_of answers) token
+among_tokens [] kept token there is = absurd (omega (arith, there.1))
+among_tokens (first ∷ rest) kept token (zero, low, at) is =
+    Contains-append_left first.tokens (tokens_of rest) token
+    (subst (λ (a : KeptAnswer). Contains a.tokens token) (sym at) is)
+among_tokens (first ∷ rest) kept token (suc n, low, at) is =
+    Contains-append_right first.tokens (tokens_of rest) token
+    (among_tokens rest kept token (n, omega (arith, low), at) is)
+
+-- where the tokens are in a row from index 0 on, each stands at its index
+begun_pooled : (f : Framework) (limit : ℕ) (answers : List KeptAnswer)
+    → AreInRow 0 (tokens_of answers) (length (tokens_of answers)) → (kept : KeptAnswer) → Contains answers kept
+    → HasPooled (begun f limit answers) kept.tokens
+begun_pooled f limit answers row kept there = record {
+  each = λ token is.
+      let tokens = tokens_of answers in
+      let at = among_tokens answers kept token there is in
+      let here : index_of token ≡ 0 + at.0 = sym (ap index_of at.2) ∙ row.each at.0 token at.1 in
+      let own : index_of token ≡ at.0 = omega (arith, here) in
+      ap (λ i. option_map entry_of (slice_get tokens i)) own
+      ∙ (ap (option_map entry_of) (slice_get-get_or tokens at.0 token at.1)
+      ∙ ap (λ (x : Token). Some (entry_of x)) at.2);
+}
+
 -- ---- the law
 
 rests_empty : IsAtRest (at_start MAX_STEPS).log 0
 rests_empty = record { sided = refl; within = omega arith; quiet = λ k low high. absurd (omega (arith, high)) }
 
 pub sessions_run : SessionsAreRuns
-sessions_run f script budget t is k none nothing low core begun =
+sessions_run f script budget t is k none nothing low =
     let s = k + 1 in
     let changes = t.history.entries.items in
-    let walked = (is.served k none nothing (omega (arith, low, is.replies))).walked in
-    let started : StandsIn f MAX_HISTORY budget s changes is.taken is.within core _ begun.pooled core
+    let inside : k < is.sessions = omega (arith, low, is.replies) in
+    let walked = (is.served k none nothing inside).walked in
+    let answers = (slice_index_or t.kept.items k nothing).answers.items in
+    let core = begun f MAX_HISTORY answers in
+    let pooled = begun_pooled f MAX_HISTORY answers (is.shared k nothing inside).row in
+    let started : StandsIn f MAX_HISTORY budget s changes is.taken is.within core answers pooled core
     (at_start MAX_STEPS) = record {
       at = record {
-        opening = begun.opening;
-        numbered = begun.numbered;
-        history_is = begun.no_history;
-        log_is = begun.log_is;
-        rests = subst (IsAtRest (at_start MAX_STEPS).log) (sym begun.answered) rests_empty;
+        opening = refl;
+        numbered = is.form;
+        history_is = refl;
+        log_is = refl;
+        rests = rests_empty;
       };
-      limit_is = begun.limit_is;
+      limit_is = refl;
       pool_is = refl;
       followed = omega arith;
     } in
-    let ran = lines_run f MAX_HISTORY budget s changes is.taken is.within core _ begun.pooled _ _ core
+    let ran = lines_run f MAX_HISTORY budget s changes is.taken is.within core answers pooled _ _ core
     (at_start MAX_STEPS) walked.end started walked.walks walked.gained.longer
     (λ kept there. subst (λ l. Contains l kept) (sym walked.answers_are) there) in
-    let o = others_come f MAX_HISTORY budget s changes is.taken is.within core _ begun.pooled ran.0 walked.end
+    let o = others_come f MAX_HISTORY budget s changes is.taken is.within core answers pooled ran.0 walked.end
     (entries_in changes) ran.2 walked.gained.longer ([], append-nil (entries_in changes)) in
     record {
       mid = ran.0;

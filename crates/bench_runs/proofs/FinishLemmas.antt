@@ -9,7 +9,7 @@ use Rattle.std.proofs.lemmas.List.FromFn.{get_or-range_with_len, length-range_wi
 use Rattle.std.proofs.lemmas.List.Elements.{All-contains_itself, All-map, All-weaker}
 use Rattle.lists.proofs.Filters.{filter_none, filter_whole}
 use mathlib.Core.List.{IsPrefix}
-use Rattle.semantics.specs.Frameworks.{Framework}
+use Rattle.semantics.specs.Frameworks.{Framework, IsNumbered}
 use Rattle.turn_lock.specs.Seats.{list_of, number_of}
 use Rattle.turn_lock.specs.Turns.{entries_of}
 use Rattle.edit_history.specs.declared.entry.HistoryEntry.{HistoryEntry}
@@ -19,8 +19,9 @@ use Rattle.edit_history.specs.Hubs.{AreSeatsOf, IsSeatAt, limit_of, sessions_of,
 use Rattle.script_text.specs.declared.script.Script.{Script}
 use Rattle.script_text.specs.declared.script.ScriptLine.{ScriptLine}
 use Rattle.clause_pool.specs.declared.pool.Pool.{Pool}
+use Rattle.clause_pool.specs.Pools.{AreInRow}
 use Rattle.session_core.specs.declared.kept.Kept.{Kept}
-use Rattle.session_core.specs.Sessions.{RestOnPool, seen_by}
+use Rattle.session_core.specs.Sessions.{RestOnPool, seen_by, tokens_of}
 use Rattle.session_replies.specs.declared.reply.Reply.{Reply}
 use Rattle.bench_runs.specs.declared.script_run.TheConstants.{MAX_HISTORY}
 use Rattle.bench_runs.specs.declared.runner.Runner.{Runner}
@@ -149,6 +150,8 @@ shared_at hub pool budget count lines runners t all numbers few h k nothing low 
     record {
       tokens = subst (λ (x : Kept). RestOnPool t.pool x.answers.items) (sym kept)
           (subst (λ p. RestOnPool p r.session.answers.items) (sym h.pool_is) served.pooled);
+      row = subst (λ (x : Kept). AreInRow 0 (tokens_of x.answers.items) (length (tokens_of x.answers.items))) (sym kept)
+          (subst (AreInRow 0 (tokens_of r.session.answers.items)) served.row.next_is served.row);
       imports = imports_given (start_of hub) (limit_of hub) budget (k + 1) (lines_of (k + 1) lines)
           (entries_in t.history.entries.items) (slice_index_or t.kept.items k nothing).engine.log
           (slice_index_or t.kept.items k nothing).answers.items (slice_index_or t.replies.items k [])
@@ -204,11 +207,12 @@ pub transcript_is : (script : Script) (budget count : ℕ) (hub : Hub) (pool : P
     → count ≤ sessions_of hub → 0 < sessions_of hub → (0 < count → sessions_of hub ≡ count)
     → (count ≡ 0 → sessions_of hub ≡ 1) → All (HasServed hub pool budget script.lines) runners
     → map number_in runners ≡ range_with_len 1 (sessions_of hub) → IsFinished hub pool runners count t
-    → IsTranscriptOf f script budget t
-transcript_is script budget count hub pool runners t f start limit are few some least one all numbers h =
+    → IsNumbered f → IsTranscriptOf f script budget t
+transcript_is script budget count hub pool runners t f start limit are few some least one all numbers h form =
     let long : length runners ≡ sessions_of hub =
     sym (length-map runners number_in) ∙ (ap length numbers ∙ length-range_with_len 1 (sessions_of hub)) in
     record {
+      form = form;
       opening = h.history.opening ∙ start;
       within = subst (λ n. length t.history.entries.items ≤ n) limit h.history.within;
       taken = subst (λ g. AreDone g t.history.entries.items) start h.history.effects;

@@ -27,7 +27,7 @@ use Rattle.script_text.specs.declared.script.ScriptLine.{ScriptLine}
 use Rattle.session_core.specs.oracle_core.specs.Engines.{EngineState}
 use Rattle.session_core.specs.declared.session.Session.{Session}
 use Rattle.session_core.specs.Replies.{EditSays, IsBySteps, IsEditReply}
-use Rattle.session_core.specs.Sessions.{IsAsked, RestOnPool, seen_by}
+use Rattle.session_core.specs.Sessions.{IsAsked, TakesMore, seen_by}
 use Rattle.session_replies.specs.declared.reply.Body.{Body}
 use Rattle.session_replies.specs.declared.reply.Body.TheVariants.{Done, EditRefused, Full, Answered, QueryRefused}
 use Rattle.session_replies.specs.declared.reply.Body.TheVariants.{Unknown, TooMany, LogFull}
@@ -233,7 +233,7 @@ pub own_done : (hub : Hub) (pool : Pool) (budget : ℕ) (before : List ScriptLin
     (line : ScriptLine) (reply : Reply) → line.session ≡ old.session.number → IsReady hub new
     → IsTold hub budget line.command old.session new reply → new.number ≡ old.session.number
     → replies ≡ old.replies ++ reply ∷ []
-    → (RestOnPool pool old.session.answers.items → RestOnPool pool new.answers.items)
+    → TakesMore pool old.session new
     → HasServed hub pool budget before old
     → HasServed hub pool budget (before ++ line ∷ []) (record { session = new; replies = replies })
 own_done hub pool budget before old new replies line reply own ready told number pushed pooled h = record {
@@ -241,7 +241,8 @@ own_done hub pool budget before old new replies line reply own ready told number
   walks = rw (pushed, number, own_line old.session.number before line own)
       (walks_push (start_of hub) (limit_of hub) budget old.session.number (at_start MAX_STEPS) (stand_of old.session)
       (stand_of new) (lines_of old.session.number before) old.replies line reply h.walks told);
-  pooled = pooled h.pooled;
+  pooled = pooled.own h.pooled;
+  row = pooled.row h.row;
 }
 
 -- a line of another session's was passed over
@@ -252,4 +253,5 @@ other_done hub pool budget before runner line other h = record {
   ready = h.ready;
   walks = rw (other_line runner.session.number before line other) h.walks;
   pooled = h.pooled;
+  row = h.row;
 }

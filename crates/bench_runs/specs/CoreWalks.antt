@@ -1,12 +1,14 @@
 -- A session's way through its lines in the core: a run of it, in which the edits of other sessions come between.
-use Rattle.std.specs.Prelude.{◌≡◌, ℕ, ◌+◌, ◌<◌, List, [], ◌∷◌, ◌++◌, length, map, slice_index_or, Contains, Option}
-use Rattle.semantics.specs.Frameworks.{Framework, IsNumbered}
+use Rattle.std.specs.Prelude.{◌≡◌, ℕ, ◌+◌, ◌<◌, List, [], ◌∷◌, ◌++◌, length, map, slice_get, slice_index_or, Option}
+use Rattle.std.specs.Prelude.{option_map}
+use Rattle.semantics.specs.Frameworks.{Framework}
 use Rattle.iccma_tasks.specs.Tasks.{Asked}
 use Rattle.turn_lock.specs.Turns.{entries_of}
 use Rattle.edit_history.specs.declared.entry.HistoryEntry.{HistoryEntry}
 use Rattle.edit_history.specs.Entries.{entries_in, session_of}
 use Rattle.oracle_face.specs.declared.face.Pending.{Pending}
 use Rattle.oracle_face.specs.Logs.{OracleLog}
+use Rattle.clause_pool.specs.Pools.{entry_of}
 use Rattle.session_log.specs.Ends.{Ending}
 use Rattle.script_text.specs.declared.script.Script.{Script}
 use Rattle.script_text.specs.declared.script.ScriptCommand.{ScriptCommand}
@@ -17,7 +19,8 @@ use Rattle.core_machine.specs.Steps.{Event, Runs, answer, commit, refresh}
 use Rattle.session_replies.specs.declared.reply.Body.{Body}
 use Rattle.session_replies.specs.declared.reply.Reply.{Reply}
 use Rattle.semantics.specs.declared.limits.TheConstants.{MAX_EXTENSIONS}
-use Rattle.session_core.specs.CoreRuns.{AreOfLog, EndsAs, HasPooled}
+use Rattle.session_core.specs.CoreRuns.{AreOfLog, EndsAs}
+use Rattle.session_core.specs.Sessions.{tokens_of}
 use Rattle.session_core.specs.declared.kept.Kept.{Kept}
 use Rattle.session_core.specs.declared.kept.KeptAnswer.{KeptAnswer}
 use Rattle.hinted_log.specs.declared.log.TheConstants.{MAX_STEPS}
@@ -62,15 +65,17 @@ RunsLines s budget (line ∷ lines) (reply ∷ replies) core end =
     (mid : Core) × RunsLine s budget line.command reply core mid × RunsLines s budget lines replies mid end
 RunsLines s budget lines replies core end = ⊥
 
--- the core at its beginning, but for its pool, which has the entries that the real one gave for these queries
-pub record IsBegun (core : Core) (f : Framework) (limit s : ℕ) (answers : List KeptAnswer) : Type 0 where
-  pub opening : core.opening ≡ f
-  pub numbered : IsNumbered f
-  pub limit_is : core.limit ≡ limit
-  pub no_history : core.history ≡ []
-  pub log_is : (core.sessions s).log ≡ (at_start MAX_STEPS).log
-  pub answered : (core.sessions s).answered ≡ 0
-  pub pooled : (kept : KeptAnswer) → Contains answers kept → HasPooled core kept.tokens
+-- the core at its beginning, but for its pool, which has the entries that the real one gave for these queries: each at
+-- the index at which it stands there, since they were given from index 0 on, one after the other
+abbrev pub begun : Framework → ℕ → List KeptAnswer → Core
+begun f limit answers = record {
+  opening = f;
+  limit = limit;
+  history = [];
+  turns = 0;
+  pool = λ i. option_map entry_of (slice_get (tokens_of answers) i);
+  sessions = λ s. record { seen = 0; log = (at_start MAX_STEPS).log; shared = []; answered = 0 };
+}
 
 -- the lines, and then entries of other sessions, lead from there to the history and to the session's log
 pub record RunsThrough (s budget : ℕ) (lines : List ScriptLine) (replies : List Reply) (history : List HistoryEntry)
@@ -84,10 +89,11 @@ pub record RunsThrough (s budget : ℕ) (lines : List ScriptLine) (replies : Lis
   pub history_is : end.history ≡ history
   pub log_is : (end.sessions s).log ≡ log
 
--- each session of a transcript is a run of the core, beside the edits of the other sessions
+-- each session of a transcript is a run of the core from its beginning, beside the edits of the other sessions and with
+-- the clauses that the pool gave it
 abbrev pub SessionsAreRuns : Type 0
 SessionsAreRuns = (f : Framework) (script : Script) (budget : ℕ) (t : ScriptTranscript)
     → IsTranscriptOf f script budget t → (k : ℕ) (none : List Reply) (nothing : Kept) → k < length t.replies.items
-    → (core : Core) → IsBegun core f MAX_HISTORY (k + 1) (slice_index_or t.kept.items k nothing).answers.items
     → RunsThrough (k + 1) budget (lines_of (k + 1) script.lines) (slice_index_or t.replies.items k none)
-    (entries_in t.history.entries.items) (slice_index_or t.kept.items k nothing).engine.log core
+    (entries_in t.history.entries.items) (slice_index_or t.kept.items k nothing).engine.log
+    (begun f MAX_HISTORY (slice_index_or t.kept.items k nothing).answers.items)

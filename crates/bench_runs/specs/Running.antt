@@ -11,11 +11,12 @@ use Rattle.session_core.specs.oracle_core.specs.Trading.{AnySide}
 use Rattle.oracle_face.specs.Growing.{Grows}
 use Rattle.oracle_face.specs.Logs.{OracleLog}
 use Rattle.clause_pool.specs.declared.pool.Pool.{Pool}
+use Rattle.clause_pool.specs.Pools.{AreInRow}
 use Rattle.script_text.specs.declared.script.ScriptCommand.{ScriptCommand}
 use Rattle.script_text.specs.declared.script.ScriptLine.{ScriptLine}
 use Rattle.session_core.specs.declared.kept.KeptAnswer.{KeptAnswer}
 use Rattle.session_core.specs.declared.session.Session.{Session}
-use Rattle.session_core.specs.Sessions.{Follows, RestOnPool, seen_by}
+use Rattle.session_core.specs.Sessions.{Follows, RestOnPool, seen_by, tokens_of}
 use Rattle.session_replies.specs.declared.reply.Reply.{Reply}
 use Rattle.bench_runs.specs.Served.{lines_of}
 use Rattle.bench_runs.specs.Walks.{DoesCommand, Stand, Walks, at_start}
@@ -51,9 +52,10 @@ IsTold hub budget command old new reply =
     DoesCommand (start_of hub) (limit_of hub) budget old.number command (stand_of old) reply (stand_of new)
 
 -- the session has done its lines among these, one after the other, and got these replies; the tokens that it keeps are
--- the pool's
+-- the pool's, and stand at its indexes from 0 to the one at which the session looks next
 pub record HasServed (hub : Hub) (pool : Pool) (budget : ℕ) (lines : List ScriptLine) (runner : Runner) : Type 0 where
   pub ready : IsReady hub runner.session
   pub walks : Walks (start_of hub) (limit_of hub) budget runner.session.number (at_start MAX_STEPS)
       (lines_of runner.session.number lines) runner.replies (stand_of runner.session)
   pub pooled : RestOnPool pool runner.session.answers.items
+  pub row : AreInRow 0 (tokens_of runner.session.answers.items) runner.session.taken

@@ -1,6 +1,6 @@
 -- What a script comes to.
 use Rattle.std.specs.Prelude.{◌≡◌, ◌⊎◌, ℕ, ◌+◌, ◌<◌, ◌≤◌, List, All, Contains, length, slice_index_or}
-use Rattle.semantics.specs.Frameworks.{Framework}
+use Rattle.semantics.specs.Frameworks.{Framework, IsNumbered}
 use Rattle.edit_rules.specs.Kinds.{framework_of}
 use Rattle.edit_history.specs.Entries.{AreDone, entries_in}
 use Rattle.script_text.specs.declared.script.Script.{Script}
@@ -21,6 +21,7 @@ pub record AreSessions (lines : List ScriptLine) (count : ℕ) : Type 0 where
 -- from 1 to the greatest that the script names, what it was told of its lines, with its engine's log; and what they
 -- took from one another is in the pool that they shared
 pub record IsTranscriptOf (f : Framework) (script : Script) (budget : ℕ) (t : ScriptTranscript) : Type 0 where
+  pub form : IsNumbered f
   pub opening : framework_of t.history.opening ≡ f
   pub within : length t.history.entries.items ≤ MAX_HISTORY
   pub taken : AreDone f t.history.entries.items

@@ -6,7 +6,7 @@ ghost use Rattle.turn_lock.specs.Seats.{list_of, number_of};
 ghost use Rattle.edit_history.specs.Hubs.{IsSeatAt, start_of};
 ghost use Rattle.script_text.specs.declared.script.ScriptLine.{ScriptLine as ALine};
 ghost use Rattle.clause_pool.specs.declared.pool.Pool.{Pool as APool};
-ghost use Rattle.session_core.specs.Sessions.{RestOnPool};
+ghost use Rattle.session_core.specs.Sessions.{TakesMore};
 ghost use Rattle.bench_runs.specs.Running.{HasServed, IsReady, IsTold};
 
 use argue_outside::{Pace, Point};
@@ -81,8 +81,7 @@ impl Runner {
         requires { IsReady hub.now self.old.session }
         ensures ready { OnOk result (IsReady hub.now self.new.session) }
         ensures told { IfOk result (IsTold hub.now budget command.now self.old.session self.new.session) }
-        ensures pooled { RestOnPool pool.now self.old.session.answers.items
-            → RestOnPool pool.now self.new.session.answers.items }
+        ensures pooled { TakesMore pool.now self.old.session self.new.session }
         ensures number { self.new.session.number ≡ self.old.session.number }
         ensures replies { self.new.replies ≡ self.old.replies }
     {

@@ -1,16 +1,10 @@
 -- A session's query is a run of the core.
-use Rattle.std.proofs.Common.{◌≡◌, ◌∙◌, ℕ, ◌+◌, ◌*◌, ◌≤◌, true≢false, refl, List, [], ◌∷◌, ◌++◌, length, map, take}
+use Rattle.std.proofs.Common.{◌≡◌, ◌∙◌, ℕ, ◌+◌, ◌*◌, ◌≤◌, refl, List, [], ◌∷◌, ◌++◌, length, map, take}
 use Rattle.std.proofs.Common.{ap, arith, sym, subst, Option}
-use Rattle.std.specs.Prelude.{drop, false}
+use Rattle.std.specs.Prelude.{drop}
 use Rattle.std.proofs.lemmas.List.{append-nil, take_all}
 use Rattle.semantics.specs.Frameworks.{Framework, IsNumbered}
-use Rattle.iccma_tasks.specs.declared.task.Problem.{Problem}
-use Rattle.iccma_tasks.specs.declared.task.Problem.TheVariants.{Credulous, Sceptical, SomeExtension, AllExtensions}
-use Rattle.iccma_tasks.specs.declared.task.Semantics.{Semantics}
-use Rattle.iccma_tasks.specs.declared.task.Semantics.TheVariants.{Complete, Grounded}
-use Rattle.iccma_tasks.specs.declared.task.Kind.{Kind}
-use Rattle.iccma_tasks.specs.declared.task.Kind.TheVariants.{Af, Aba}
-use Rattle.iccma_tasks.specs.Tasks.{Asked, HasTask}
+use Rattle.iccma_tasks.specs.Tasks.{Asked}
 use Rattle.edit_rules.specs.Kinds.{kind_of}
 use Rattle.edit_rules.proofs.ReplayLemmas.{kind_stays}
 use Rattle.edit_history.specs.declared.entry.HistoryEntry.{HistoryEntry}
@@ -22,12 +16,10 @@ use Rattle.oracle_face.specs.Logs.{OracleLog}
 use Rattle.oracle_face.proofs.GrowingLemmas.{run_joined}
 use Rattle.clause_pool.specs.Pools.{entry_of}
 use Rattle.session_log.proofs.GivenSteps.{gains_some}
-use Rattle.session_log.specs.Ends.{Course, Ending, IsByGrounded, IsEnd, LoopInHand, MadeFor, WorksFor}
+use Rattle.session_log.specs.Ends.{Course, Ending, IsEnd, LoopInHand, MadeFor, WorksFor}
 use Rattle.session_log.specs.Ends.{definite, log_full, refused, too_many, unknown}
-use Rattle.oracle_core.specs.query_answers.specs.Answers.{is_by_grounded}
 use Rattle.core_machine.specs.Core.{Core, CoreSession, seen_framework, with_session}
 use Rattle.core_machine.specs.Steps.{IsStep, after_turn, answer, cut, goes, refresh, rests}
-use Rattle.oracle_core.specs.Answering.{NeedsSearch}
 use Rattle.oracle_core.specs.SteppingLaws.{loops_joined}
 use Rattle.session_replies.specs.declared.reply.Body.{Body}
 use Rattle.session_replies.specs.declared.reply.Body.TheVariants.{Answered, Done, EditRefused, Full, LogFull}
@@ -43,22 +35,6 @@ use Rattle.session_core.proofs.RunLemmas.{reached_none, rest_behind, rest_loops,
 use Rattle.session_core.proofs.RunLemmas.{seen_same, sided_behind, steps_reach, tokens_pooled}
 
 -- ---- how it ends
-
--- where a search is needed, the grounded set doesn't answer the task
-not_by_grounded : (kind : Kind) (problem : Problem) (semantics : Semantics) → HasTask kind problem semantics
-    → is_by_grounded problem semantics ≡ false → IsByGrounded problem semantics → ⊥
-not_by_grounded kind Credulous Grounded has none by = true≢false none
-not_by_grounded kind Sceptical Grounded has none by = true≢false none
-not_by_grounded kind SomeExtension Grounded has none by = true≢false none
-not_by_grounded Af AllExtensions Grounded has none by = has
-not_by_grounded Aba AllExtensions Grounded has none by = has
-not_by_grounded kind Sceptical Complete has none by = true≢false none
-not_by_grounded kind SomeExtension Complete has none by = true≢false none
-not_by_grounded _ _ _ has none by = absurd by
-
-may_stop : (f : Framework) (asked : Asked) → NeedsSearch f asked
-    → IsByGrounded asked.task.problem asked.task.semantics → ⊥
-may_stop f asked needs = not_by_grounded (kind_of f) asked.task.problem asked.task.semantics needs.0.task needs.1
 
 -- a query with this reply ended, and may end so
 pub record HasEnded (f : Framework) (asked : Asked) (course : Course) (said : Body) : Type 0 where
@@ -83,12 +59,12 @@ ends_so f asked course (QueryRefused fault) says shown in_hand works = record {
 ends_so f asked course (Unknown count) says shown in_hand works = record {
   ending = unknown count;
   ends = refl;
-  may = (says.0, works, may_stop f asked says, in_hand);
+  may = (says.0, works, says.1, in_hand);
 }
 ends_so f asked course LogFull says shown in_hand works = record {
   ending = log_full;
   ends = refl;
-  may = (says.0, works, may_stop f asked says);
+  may = (says.0, works, says.1);
 }
 ends_so f asked course TooMany says shown in_hand works = record {
   ending = too_many says.1.0;

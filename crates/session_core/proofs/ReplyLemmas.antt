@@ -10,9 +10,8 @@ use Rattle.clause_pool.specs.Pools.{entry_of}
 use Rattle.oracle_face.specs.declared.face.Pending.{Pending}
 use Rattle.oracle_face.specs.Growing.{HasRun, IsStop}
 use Rattle.oracle_face.specs.Logs.{OracleLog}
-use Rattle.session_log.specs.Ends.{IsShownBy as IsShownByLog, LoopInHand, MadeFor}
+use Rattle.session_log.specs.Ends.{IsShownBy as IsShownByLog, LoopInHand, MadeFor, is_by_grounded}
 use Rattle.oracle_core.specs.certificate_making.specs.Cuts.{AreCut}
-use Rattle.oracle_core.specs.query_answers.specs.Answers.{is_by_grounded}
 use Rattle.oracle_core.specs.declared.reply.Answered.{Answered}
 use Rattle.oracle_core.specs.declared.reply.AnswerStop.{AnswerStop}
 use Rattle.oracle_core.specs.declared.reply.AnswerStop.TheVariants as stop

@@ -1,6 +1,7 @@
 -- What a session's calls leave, one part after the other.
 use Rattle.std.proofs.Common.{◌≡◌, ◌∙◌, ℕ, ◌≤◌, List, [], ◌∷◌, ◌++◌, length, take, drop, sym, ap, subst}
-use Rattle.std.proofs.lemmas.List.{take-append-le}
+use Rattle.std.proofs.lemmas.Grind.{flat_map-append}
+use Rattle.std.proofs.lemmas.List.{append-nil, take-append-le}
 use Rattle.std.proofs.lemmas.List.Elements.{All-push}
 use Rattle.std.proofs.Math.Seq.{take-append_seam}
 use mathlib.Core.List.{IsPrefix}
@@ -16,12 +17,13 @@ use Rattle.session_log.specs.Ends.{MadeFor}
 use Rattle.oracle_core.specs.Engines.{EngineState}
 use Rattle.oracle_core.specs.Trading.{AnySide}
 use Rattle.clause_pool.specs.declared.pool.Pool.{Pool}
-use Rattle.clause_pool.specs.Pools.{AreTokensOf}
+use Rattle.clause_pool.specs.Pools.{AreInRow, AreTokensOf}
+use Rattle.clause_pool.proofs.RowLemmas.{none_yet, rows_joined}
 use Rattle.session_core.specs.declared.kept.KeptAnswer.{KeptAnswer}
 use Rattle.session_core.specs.declared.session.Session.{Session}
 use Rattle.session_core.specs.Following.{CatchesUp, HasFollowed}
 use Rattle.session_core.specs.Laws.{AskedIsReadable, ReadableStays}
-use Rattle.session_core.specs.Sessions.{RestOnPool, seen_by}
+use Rattle.session_core.specs.Sessions.{RestOnPool, TakesMore, seen_by, tokens_of}
 use Rattle.session_core.specs.Telling.{IsCaughtUp}
 use Rattle.session_core.proofs.FollowingLemmas.{after_parts}
 
@@ -114,3 +116,35 @@ pub rest_more : (pool : Pool) (before after : List KeptAnswer) (kept : KeptAnswe
     → AreTokensOf pool kept.tokens → RestOnPool pool before → RestOnPool pool after
 rest_more pool before after kept is own rest =
     subst (RestOnPool pool) (sym is) (All-push (λ (a : KeptAnswer). AreTokensOf pool a.tokens) before kept rest own)
+
+-- ---- where it stands in the pool
+
+pub none_taken : (answers : List KeptAnswer) (next : ℕ) → answers ≡ [] → next ≡ 0
+    → AreInRow 0 (tokens_of answers) next
+none_taken answers next none start =
+    subst (AreInRow 0 (tokens_of answers)) (sym start) (none_yet (tokens_of answers) 0 (ap tokens_of none))
+
+-- what is kept stays so
+pub same_taken : (pool : Pool) (old new : Session) → new.answers.items ≡ old.answers.items → new.taken ≡ old.taken
+    → TakesMore pool old new
+same_taken pool old new answers taken = record {
+  own = subst (RestOnPool pool) (sym answers);
+  row = λ row. subst (λ (l : List KeptAnswer). AreInRow 0 (tokens_of l) new.taken) (sym answers)
+      (subst (AreInRow 0 (tokens_of old.answers.items)) (sym taken) row);
+}
+
+-- what came after what stayed
+pub taken_after : (pool : Pool) (old mid new : Session) → mid.answers.items ≡ old.answers.items
+    → mid.taken ≡ old.taken → TakesMore pool mid new → TakesMore pool old new
+taken_after pool old mid new answers taken more =
+    let same = same_taken pool old mid answers taken in
+    record { own = λ are. more.own (same.own are); row = λ row. more.row (same.row row) }
+
+-- a query more, the tokens of which follow on the others
+pub row_more : (before after : List KeptAnswer) (kept : KeptAnswer) (low high : ℕ) → after ≡ before ++ kept ∷ []
+    → AreInRow low kept.tokens high → AreInRow 0 (tokens_of before) low → AreInRow 0 (tokens_of after) high
+row_more before after kept low high is own row =
+    let whole : tokens_of before ++ kept.tokens ≡ tokens_of after =
+    ap (λ l. tokens_of before ++ l) (sym (append-nil kept.tokens))
+    ∙ (sym (flat_map-append (λ (a : KeptAnswer). a.tokens) before (kept ∷ [])) ∙ ap tokens_of (sym is)) in
+    subst (λ l. AreInRow 0 l high) whole (rows_joined (tokens_of before) kept.tokens 0 low high row own)

@@ -15,9 +15,9 @@ use Rattle.oracle_face.specs.declared.entry.Entry.{Entry as PoolEntry}
 use Rattle.oracle_face.specs.declared.face.Pending.{Pending}
 use Rattle.oracle_face.specs.Growing.{Grows, HasRun}
 use Rattle.oracle_face.specs.Logs.{OracleLog}
-use Rattle.session_log.specs.Ends.{IsShownBy as IsShownByLog, LoopInHand, MadeFor}
+use Rattle.session_log.specs.Ends.{IsShownBy as IsShownByLog, LoopInHand, MadeFor, is_by_grounded}
 use Rattle.oracle_core.specs.certificate_making.specs.Cuts.{AreCut}
-use Rattle.oracle_core.specs.query_answers.specs.Answers.{AreTooMany, is_by_grounded}
+use Rattle.oracle_core.specs.query_answers.specs.Answers.{AreTooMany}
 use Rattle.oracle_core.specs.Answering.{NeedsSearch}
 use Rattle.oracle_core.specs.Answers.{IsShownBy}
 use Rattle.oracle_core.specs.Stepping.{GoesOnBySteps}

@@ -1,5 +1,6 @@
 -- What is said of a session at a hub.
 use Rattle.std.specs.Prelude.{◌≡◌, ℕ, false, List, [], ◌∷◌, ◌++◌, All, length, map, take, drop}
+use Rattle.std.specs.List.{flat_map}
 use Rattle.semantics.specs.Frameworks.{Framework}
 use Rattle.iccma_tasks.specs.Tasks.{Asked}
 use Rattle.turn_lock.specs.Seats.{list_of}
@@ -9,7 +10,8 @@ use Rattle.edit_history.specs.Entries.{framework_after}
 use Rattle.edit_history.specs.Hubs.{start_of}
 use Rattle.oracle_face.specs.Logs.{OracleLog}
 use Rattle.clause_pool.specs.declared.pool.Pool.{Pool}
-use Rattle.clause_pool.specs.Pools.{AreTokensOf, entry_of}
+use Rattle.clause_pool.specs.declared.pooled.Token.{Token}
+use Rattle.clause_pool.specs.Pools.{AreInRow, AreTokensOf, entry_of}
 use Rattle.session_replies.specs.declared.reply.Reply.{Reply}
 use Rattle.session_core.specs.declared.kept.KeptAnswer.{KeptAnswer}
 use Rattle.session_core.specs.declared.session.Session.{Session}
@@ -33,6 +35,16 @@ FollowsFrom f session = (hub : Hub) → start_of hub ≡ f → Follows hub sessi
 -- for each of these queries the tokens that are kept are the pool's
 abbrev pub RestOnPool : Pool → List KeptAnswer → Type 0
 RestOnPool pool answers = All (λ kept. AreTokensOf pool kept.tokens) answers
+
+-- the tokens that are kept of these queries, query by query
+abbrev pub tokens_of : List KeptAnswer → List Token
+tokens_of answers = flat_map (λ (kept : KeptAnswer). kept.tokens) answers
+
+-- where the tokens that a session keeps were the pool's, they are now; and where they stood at the pool's indexes, from
+-- 0 to the one at which it looks next, they do now
+pub record TakesMore (pool : Pool) (old new : Session) : Type 0 where
+  pub own : RestOnPool pool old.answers.items → RestOnPool pool new.answers.items
+  pub row : AreInRow 0 (tokens_of old.answers.items) old.taken → AreInRow 0 (tokens_of new.answers.items) new.taken
 
 -- the session took a query, and this is its reply: it followed the whole history as it then was, the log gained axioms
 -- that were needed on the way, and then steps of the session, for which the pool gave the entries of the tokens that

@@ -1,7 +1,7 @@
 //! The reply to a query, on the framework that the engine is for.
 
 ghost use Rattle.std.specs.Prelude.{◌≡◌, [], IfOk};
-ghost use Rattle.clause_pool.specs.Pools.{AreTokensOf};
+ghost use Rattle.clause_pool.specs.Pools.{AreInRow, AreTokensOf};
 ghost use Rattle.oracle_core.specs.Trading.{AnySide};
 ghost use Rattle.oracle_face.specs.Growing.{Grows};
 ghost use Rattle.session_core.specs.Telling.{IsBodyOf, IsTold, clause_kept};
@@ -64,6 +64,7 @@ pub(crate) fn tell<R: Wait>(
     ensures told { IfOk result (IsTold engine.old.framework engine.old.number query.now limit engine.old.log
         engine.new.log) }
     ensures tokens { IfOk result (λ told. AreTokensOf trade.entry.pool.now told.kept.tokens) }
+    ensures row { IfOk result (λ told. AreInRow trade.entry.next told.kept.tokens told.next) }
     ensures framework { engine.new.framework ≡ engine.old.framework }
     ensures number { engine.new.number ≡ engine.old.number }
     ensures grows { Grows AnySide engine.old.log engine.new.log }

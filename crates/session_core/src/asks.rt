@@ -7,7 +7,7 @@ ghost use Rattle.oracle_core.specs.Trading.{AnySide};
 ghost use Rattle.oracle_face.specs.Growing.{Grows};
 ghost use Rattle.oracle_face.specs.Logs.{IsKept};
 ghost use Rattle.session_core.specs.Following.{HasFollowed};
-ghost use Rattle.session_core.specs.Sessions.{Follows, IsAsked, RestOnPool, seen_by};
+ghost use Rattle.session_core.specs.Sessions.{Follows, IsAsked, TakesMore, seen_by};
 ghost use Rattle.session_core.specs.Telling.{HasTold, HasTurn, IsCaughtUp};
 
 use crate::answering::tell;
@@ -33,6 +33,7 @@ impl Session {
         ensures grows { Grows AnySide self.old.engine.log self.new.engine.log }
         ensures numbers { (self.new.number ≡ self.old.number) × (self.new.engine.number ≡ self.old.engine.number) }
         ensures answers { self.new.answers ≡ self.old.answers }
+        ensures taken { self.new.taken ≡ self.old.taken }
         ensures lost { self.new.lost ≡ self.old.lost }
     {
         let Fresh { entries, front } = hub.refresh(rt, alloc, &mut self.seat, self.followed)?;
@@ -56,7 +57,7 @@ impl Session {
         ensures framework { self.new.engine.framework ≡ self.old.engine.framework }
         ensures numbers { (self.new.number ≡ self.old.number) × (self.new.engine.number ≡ self.old.engine.number) }
         ensures answers { OnErr result (self.new.answers.items ≡ self.old.answers.items) }
-        ensures pooled { RestOnPool pool.now self.old.answers.items → RestOnPool pool.now self.new.answers.items }
+        ensures pooled { TakesMore pool.now self.old self.new }
         ensures seat { self.new.seat ≡ self.old.seat }
         ensures followed { self.new.followed ≡ self.old.followed }
         ensures lost { self.new.lost ≡ self.old.lost }
@@ -64,8 +65,9 @@ impl Session {
         self.answers.reserve(1)?;
         let trade = PoolTrade::new(rt, alloc, pool, self.taken);
         let told = tell(alloc, &mut self.engine, trade, query, limit)?;
-        self.taken = told.next;
+        let next = told.next;
         self.answers.push(told.kept)?;
+        self.taken = next;
         Ok(told.body)
     }
 
@@ -87,7 +89,7 @@ impl Session {
         ensures grows { Grows AnySide self.old.engine.log self.new.engine.log }
         ensures numbers { (self.new.number ≡ self.old.number) × (self.new.engine.number ≡ self.old.engine.number) }
         ensures answers { OnErr result (self.new.answers.items ≡ self.old.answers.items) }
-        ensures pooled { RestOnPool pool.now self.old.answers.items → RestOnPool pool.now self.new.answers.items }
+        ensures pooled { TakesMore pool.now self.old self.new }
         ensures lost { self.new.lost ≡ self.old.lost }
     {
         let front = self.catch_up(rt, alloc, hub)?;
@@ -124,7 +126,7 @@ impl Session {
         ensures grows { Grows AnySide self.old.engine.log self.new.engine.log }
         ensures numbers { (self.new.number ≡ self.old.number) × (self.new.engine.number ≡ self.old.engine.number) }
         ensures answers { OnErr result (self.new.answers.items ≡ self.old.answers.items) }
-        ensures pooled { RestOnPool pool.now self.old.answers.items → RestOnPool pool.now self.new.answers.items }
+        ensures pooled { TakesMore pool.now self.old self.new }
         ensures follows { Follows hub.now self.new }
         ensures stands { IsKept self.new.engine.framework self.new.engine.log }
         ensures kept { OnOk result (self.new.lost ≡ false) }

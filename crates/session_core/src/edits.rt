@@ -37,6 +37,7 @@ impl Session {
         ensures engine { self.new.engine ≡ self.old.engine }
         ensures followed { self.new.followed ≡ self.old.followed }
         ensures answers { self.new.answers ≡ self.old.answers }
+        ensures taken { self.new.taken ≡ self.old.taken }
         ensures follows { Follows hub.now self.old → Follows hub.now self.new }
         ensures kept { OnOk result (self.new.lost ≡ false) }
         ensures lost { OnErr result (self.new.lost ≡ true) }

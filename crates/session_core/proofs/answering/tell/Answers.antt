@@ -1,8 +1,9 @@
 use Rattle.std.proofs.Common.{ap, map, subst, sym}
 use Rattle.std.proofs.lemmas.List.Elements.{All-nil}
-use Rattle.clause_pool.specs.Pools.{AreTokensOf, IsTokenOf, entry_of}
+use Rattle.clause_pool.specs.Pools.{AreInRow, AreTokensOf, IsTokenOf, entry_of}
 use Rattle.oracle_core.specs.Engines.{EngineState}
 use Rattle.oracle_core.specs.Stepping.{GoesOnBySteps}
+use Rattle.clause_pool.proofs.RowLemmas.{none_yet}
 use Rattle.session_core.proofs.ReplyLemmas.{told_is}
 use Rattle.session_core.proofs.answering.tell.Goals as goal
 
@@ -34,4 +35,12 @@ pub returns-clause-tokens : goal.returns-clause-tokens
 returns-clause-tokens g c =
     let pool = c.args.trade.pool.now in
     subst (AreTokensOf pool) (sym c.into_taken.ensures)
-    (c.answer-end.ensures.follows.1 (subst (AreTokensOf pool) (sym c.requires) (All-nil (IsTokenOf pool))))
+    (c.answer-end.ensures.follows.own (subst (AreTokensOf pool) (sym c.requires) (All-nil (IsTokenOf pool))))
+
+pub returns-clause-row : goal.returns-clause-row
+returns-clause-row g c =
+    let trade = c.args.trade in
+    let last = c.answer-end.new.trade in
+    subst (λ next. AreInRow trade.next c.into_taken.result next) (sym c.next-next.ensures)
+    (subst (λ tokens. AreInRow trade.next tokens last.next) (sym c.into_taken.ensures)
+    (c.answer-end.ensures.follows.row trade.next (none_yet trade.taken trade.next c.requires)))

@@ -9,6 +9,7 @@ use Rattle.bench_runs.specs.Walks.{Walks, at_start}
 use Rattle.turn_lock.specs.Seats.{list_of, number_of}
 use Rattle.edit_history.specs.Hubs.{IsSeatAt, limit_of, start_of}
 use Rattle.session_core.specs.oracle_core.specs.Engines.{EngineState}
+use Rattle.session_core.proofs.SessionLemmas.{none_taken}
 use Rattle.bench_runs.proofs.ToldLemmas.{opened_stand}
 use Rattle.bench_runs.proofs.runner.Runner.open.Goals as goal
 
@@ -34,4 +35,5 @@ returns-in-Ok-clause-served c =
           (opened_stand session (ap (λ s. list_of s) opened.seat ∙ c.requires.fresh) opened.followed
           (ap (λ (e : EngineState). e.log) opened.engine) opened.answers);
       pooled = subst (RestOnPool pool) (sym opened.answers) (λ k d low. absurd (omega (arith, low)));
+      row = none_taken session.answers.items session.taken opened.answers opened.taken;
     }
