@@ -24,9 +24,9 @@ use num_text::{Line, Lines, lines, next_kept};
 use std::alloc::Global;
 
 /// Reads a framework in the ICCMA form: `p aba n`, then lines `a x`, `c x y` and `r h b1 .. bk` in any order (the
-/// README has the grammar). Each line `c` adds a contrary, so that an assumption has none, one or several. Repeated lines
-/// `a` and `c`, and atoms repeated in a body, count once; each line `r` is a rule of its own, numbered by its order. At
-/// most [`MAX_RULE_LINES`](crate::MAX_RULE_LINES) lines `r` are read, and at most
+/// README has the grammar). Each line `c` adds a contrary, so an assumption has none, one or several. Repeated lines `a`
+/// and `c`, and atoms repeated in a body, count once; each line `r` is a rule of its own, numbered by its order. At most
+/// [`MAX_RULE_LINES`](crate::MAX_RULE_LINES) lines `r` are read, and at most
 /// [`MAX_CONTRARY_LINES`](crate::MAX_CONTRARY_LINES) lines `c`, repeated ones included.
 ///
 /// `Line` tells the first line at which a cause stands, and of the causes that stand there the first in

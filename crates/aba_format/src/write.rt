@@ -16,9 +16,9 @@ use std::fmt::Write;
 
 /// The text of a framework whose rules are numbered from 1 without a gap ([`AbaPlain::is_solid`] is the test): the
 /// header, a line for each assumption, for each contrary by assumption and then by contrary, and for each rule, each in
-/// rising order. Where it has at most `MAX_INPUT` bytes and 10,000,000 contraries, [`read_aba`](crate::read_aba) reads it
-/// as the same framework. `Memory` says that an allocation was refused. No command writes a framework: the law that it
-/// reads back, and tests, call this.
+/// rising order. Where it has at most `MAX_INPUT` bytes and 10,000,000 contraries, [`read_aba`](crate::read_aba) reads
+/// it as the same framework. `Memory` says that an allocation was refused. No command writes a framework: the law that
+/// it reads back, and tests, call this.
 pub fn write_aba(alloc: Global, framework: &AbaPlain) -> Result<Bytes, Memory>
     requires { IsSolid framework.now }
     ensures text { IfOk result (λ text. text ≡ aba_text framework.now) }
