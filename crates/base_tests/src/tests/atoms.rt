@@ -35,6 +35,9 @@ const LITERALS: &[(&str, &str)] = &[
     (" Cf", ""),
     ("Asm:1", "Asm:1"),
     ("-Con:1:0", "-Con:1:0"),
+    ("ConGap:1:2:1000001", "ConGap:1:2:1000001"),
+    ("-ConGap:5:6:6", "-ConGap:5:6:6"),
+    ("ConGap:1:3:2", ""),
     ("Head:1000000:2", "Head:1000000:2"),
     ("HGap:1:2:1000001", "HGap:1:2:1000001"),
     ("-Body:3:4", "-Body:3:4"),
@@ -43,6 +46,10 @@ const LITERALS: &[(&str, &str)] = &[
     ("-Der:2:1000000", "-Der:2:1000000"),
     ("Miss:1:2:3", "Miss:1:2:3"),
     ("Sup:2:0:1000001", "Sup:2:0:1000001"),
+    ("-Hit:1:7:1", "-Hit:1:7:1"),
+    ("Hit:2:1000000:1000001", "Hit:2:1000000:1000001"),
+    ("Hit:3:1:1", ""),
+    ("Hit:1:0:1", ""),
 ];
 
 #[test]
@@ -79,6 +86,8 @@ const AXIOMS: &[(&str, &[u32], &str)] = &[
     ("A5", &[1, 3, 1000000], "A5 1 3 1000000"),
     ("A6", &[2, 1000001], "A6 2 1000001"),
     ("A14", &[3], "A14 3"),
+    ("B3", &[7], "B3 7"),
+    ("B3", &[7, 2], ""),
     ("B4", &[2], "B4 2"),
     ("B9", &[2, 5], "B9 2 5"),
     ("B9", &[3, 5, 0], "B9 3 5 0"),
@@ -88,13 +97,17 @@ const AXIOMS: &[(&str, &[u32], &str)] = &[
         "B17 1 3 2 3 4 1 1 4 1 2 3",
     ),
     ("B17", &[2, 3, 1, 3, 0], "B17 2 3 1 3 0"),
+    ("B15", &[1, 3], ""),
+    ("B18", &[2, 1, 3, 1000000], "B18 2 1 3 1000000"),
+    ("B18", &[2, 1, 3, 1000001], ""),
+    ("B19", &[1, 4, 1000001], "B19 1 4 1000001"),
 ];
 
 #[test]
 fn texts_of_axioms(rt: HostRuntime) -> Result<(), Fail> {
     for &(name, arguments, text) in AXIOMS {
         let found = written_back(rt.alloc(), name, arguments)?;
-        assert!(rt; found.as_slice() == text.as_bytes(), "at {text}");
+        assert!(rt; found.as_slice() == text.as_bytes(), "at {name}: {text}");
     }
     Ok(())
 }
