@@ -147,11 +147,12 @@ shared_at hub pool budget count lines runners t all numbers few h k nothing low 
     ap (λ l. slice_index_or l k nothing) h.kept
     ∙ (get_or-take count (map kept_in runners) k nothing low ∙ get_or-map kept_in runners k d nothing inside) in
     let served = all k d inside in
+    let next : r.session.taken ≡ length (tokens_of r.session.answers.items) = omega (arith, served.row.next_is) in
     record {
       tokens = subst (λ (x : Kept). RestOnPool t.pool x.answers.items) (sym kept)
           (subst (λ p. RestOnPool p r.session.answers.items) (sym h.pool_is) served.pooled);
       row = subst (λ (x : Kept). AreInRow 0 (tokens_of x.answers.items) (length (tokens_of x.answers.items))) (sym kept)
-          (subst (AreInRow 0 (tokens_of r.session.answers.items)) served.row.next_is served.row);
+          (subst (AreInRow 0 (tokens_of r.session.answers.items)) next served.row);
       imports = imports_given (start_of hub) (limit_of hub) budget (k + 1) (lines_of (k + 1) lines)
           (entries_in t.history.entries.items) (slice_index_or t.kept.items k nothing).engine.log
           (slice_index_or t.kept.items k nothing).answers.items (slice_index_or t.replies.items k [])

@@ -30,4 +30,4 @@ returns g c =
     (subst (λ l. AreSessions l count) c.as_slice.ensures c.sessions_in-count.ensures) (omega (arith, sized, enough))
     (omega (arith, sized, some)) (λ low. let least = seats.least low in omega (arith, sized, least))
     (λ none. let one = seats.one none in omega (arith, sized, one)) served.each
-    (served.numbers ∙ c.in_ok-runners.ensures.numbers) h c.kind.ensures.form)
+    (served.numbers ∙ c.in_ok-runners.ensures.numbers) h c.kind-form.ensures.form)

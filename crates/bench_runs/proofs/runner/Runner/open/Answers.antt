@@ -1,7 +1,7 @@
 use Rattle.std.proofs.Common.{arith, ◌≡◌, ℕ, List, [], ap, rules, subst, sym, ◌∙◌}
 use Rattle.semantics.specs.Frameworks.{Framework}
 use Rattle.session_core.specs.declared.session.Session.{Session}
-use Rattle.session_core.specs.Sessions.{RestOnPool}
+use Rattle.session_core.specs.Sessions.{RestOnPool, tokens_of}
 use Rattle.session_replies.specs.declared.reply.Reply.{Reply}
 use Rattle.hinted_log.specs.declared.log.TheConstants.{MAX_STEPS}
 use Rattle.bench_runs.specs.Running.{stand_of}
@@ -9,7 +9,8 @@ use Rattle.bench_runs.specs.Walks.{Walks, at_start}
 use Rattle.turn_lock.specs.Seats.{list_of, number_of}
 use Rattle.edit_history.specs.Hubs.{IsSeatAt, limit_of, start_of}
 use Rattle.session_core.specs.oracle_core.specs.Engines.{EngineState}
-use Rattle.session_core.proofs.SessionLemmas.{none_taken}
+use Rattle.clause_pool.specs.Pools.{AreInRow}
+use Rattle.clause_pool.proofs.RowLemmas.{none_yet}
 use Rattle.bench_runs.proofs.ToldLemmas.{opened_stand}
 use Rattle.bench_runs.proofs.runner.Runner.open.Goals as goal
 
@@ -35,5 +36,6 @@ returns-in-Ok-clause-served c =
           (opened_stand session (ap (λ s. list_of s) opened.seat ∙ c.requires.fresh) opened.followed
           (ap (λ (e : EngineState). e.log) opened.engine) opened.answers);
       pooled = subst (RestOnPool pool) (sym opened.answers) (λ k d low. absurd (omega (arith, low)));
-      row = none_taken session.answers.items session.taken opened.answers opened.taken;
+      row = subst (AreInRow 0 (tokens_of session.answers.items)) (sym opened.taken)
+          (none_yet (tokens_of session.answers.items) 0 (ap tokens_of opened.answers));
     }
