@@ -417,6 +417,11 @@ def framework_of(text):
     return Aba(count, contraries, rules, len(rules) + 1)
 
 
+def with_ends(text):
+    """The text that a row writes in one line."""
+    return text.replace(";", "\n").replace("\\r", "\r").replace("\\0", "\0")
+
+
 def listed():
     """The scripts of the rows of `live` that end well: a name, the framework, the script, and the words behind it."""
     framework = answer = ""
@@ -425,9 +430,9 @@ def listed():
     for at, line in enumerate(rows.split("\n")):
         key, _, rest = line.partition(" ")
         if key == "framework":
-            framework = rest.replace(";", "\n")
+            framework = with_ends(rest)
         elif key == "answer":
-            answer = rest.replace(";", "\n")
+            answer = with_ends(rest)
         elif key == "live" and " => 0 " in line:
             words = line.split(" => ")[0].split()
             units = ["-b", words[words.index("-b") + 1]] if "-b" in words else []
