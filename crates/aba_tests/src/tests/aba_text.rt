@@ -2,7 +2,7 @@
 
 use aba_format::{one_reading, read_aba, write_aba};
 use aba_notions::AbaPlain;
-use af_format::LineCause::{BadHeader, NoHeader, WrongKind};
+use af_format::LineCause::{BadHeader, NoHeader, TooManyLines, WrongKind};
 use af_format::{LineCause, LineFault, ReadFault};
 use lists::Bytes;
 use std::alloc::Global;
@@ -181,6 +181,24 @@ fn other_kind(rt: HostRuntime) {
     for &(text, line, cause) in OTHER_KIND {
         assert!(rt; is_refused(rt.alloc(), text, line, cause), "at {text}");
     }
+}
+
+/// Whether one assumption with one contrary is read.
+fn is_opposed_once(alloc: Global, text: &str) -> bool {
+    match framework_of(alloc, text) {
+        Some(framework) => framework.contraries() == [(1, 2)].as_slice(),
+        None => false,
+    }
+}
+
+#[test]
+fn too_many_contrary_lines(rt: HostRuntime) -> Result<(), Fail> {
+    let mut text = String::from_str(rt.alloc(), "p aba 2\na 1\n")?;
+    text.push_str("c 1 2\n".repeat(rt.alloc(), 10_000_000)?.as_str())?;
+    assert!(rt; is_opposed_once(rt.alloc(), text.as_str()));
+    text.push_str("c 1 2\n")?;
+    assert!(rt; is_refused(rt.alloc(), text.as_str(), 10_000_003, TooManyLines));
+    Ok(())
 }
 
 /// The text that is written of what is read of another.
