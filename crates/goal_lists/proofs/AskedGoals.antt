@@ -25,7 +25,7 @@ use Rattle.meaning_atoms.specs.Worlds.{world_of, HoldsOf, Says, IsTrueAlone}
 use Rattle.oracle_face.specs.certificate_claims.specs.Refutations.{Claim}
 use Rattle.oracle_face.specs.certificate_claims.proofs.SetTests.{has_from, has_gives, ranged_from}
 use Rattle.oracle_face.specs.certificate_claims.specs.SetLiterals.{has, is_ranged, members, are_in, are_out, are_ranged, outside, differs, wider, attacked, struck}
-use Rattle.oracle_face.specs.certificate_claims.proofs.KindFacts.{member_is, numbered_members}
+use Rattle.oracle_face.specs.certificate_claims.proofs.KindFacts.{member_is, numbered_members, struck_is}
 use Rattle.oracle_face.specs.Logs.{OracleLog, SideClause, IsNumberOf, IsSameClause, side_at}
 use Rattle.oracle_face.specs.Goals.{AreGoals, AsksSide, IsClaimSide, IsGoal, IsMode, IsHitAtom, IsOfOneKind, IsOneSided, IsSide, IsWithinClaim, MakesTrue, SpeaksOf, Tells}
 use Rattle.oracle_face.proofs.StepTruth.{side_literals}
@@ -374,15 +374,12 @@ not_same f e set t same =
     out ((member_is f set m.0).1 (same.there m.0 m.1)))
     (differs_form f e t.literal t.member)
 
--- the set attacks the number, where what says so is true of it
-struck_says : (f : Framework) (set : List ℕ) (a : ℕ) → Says (struck f a).positive (HoldsOf f set (struck f a).atom)
-    → (collective_for f).attacks set a
-struck_says (af f) set a h = (h.attacker, h.member, h.attack)
-struck_says (aba f) set a h = record { contrary = h.contrary; is = h.is; derived = h.derived }
-
 -- a set that makes the side clause `attacked` of another true attacks a member of it
-pub attacks_one : (f : Framework) (e set : List ℕ) → IsTrueAlone (world_of f set) (attacked f e)
+pub attacks_one : (f : Framework) (e set : List ℕ) → IsNumbered f → IsTrueAlone (world_of f set) (attacked f e)
     → AttacksMember (collective_for f) set e
-attacks_one f e set t =
-    let m = attacked_form f e t.literal t.member in
-    (m.0, m.1, struck_says f set m.0 (subst (λ (k : AtomLit). Says k.positive (HoldsOf f set k.atom)) (sym m.2) t.says))
+attacks_one f e set ok t =
+    let m = attacked_form f e t.literal t.member in (
+      m.0,
+      m.1,
+      (struck_is f set m.0 ok).0 (subst (λ (k : AtomLit). Says k.positive (HoldsOf f set k.atom)) (sym m.2) t.says),
+    )

@@ -34,10 +34,11 @@ pub fn largest_part_of_assumptions(
     ensures { IfOk result (IsLargestPart (aba plain.now) set.now without.now) }
 {
     let mut part = set.minus(alloc, without)?;
-    let mut dropped = undefended(alloc, plain, &part)?;
-    while !dropped.is_empty() {
+    loop {
+        let dropped = undefended(alloc, plain, &part)?;
+        if dropped.is_empty() {
+            return Ok(part);
+        }
         part = part.minus(alloc, &dropped)?;
-        dropped = undefended(alloc, plain, &part)?;
     }
-    Ok(part)
 }

@@ -30,7 +30,7 @@ pub(crate) fn attacker<O: Oracle>(
     budget: &mut Budget,
     set: &NumSet,
 ) -> Result<Found, Halt>
-    requires holds { HoldsOf (O.framework oracle.old) set.now Ad }
+    requires { HoldsOf (O.framework oracle.old) set.now Ad }
     ensures attacks { IfOk result (Attacks (O.framework oracle.old) (O.log oracle.new) set.now) }
     ensures asked { IfOk result (IsAsked (O.framework oracle.old) (O.log oracle.new) set.now) }
     ensures ran { Ran O.Oracle MadeForIdeal (closes result) oracle.old oracle.new budget.old budget.new
