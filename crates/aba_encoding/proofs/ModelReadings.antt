@@ -314,7 +314,7 @@ module _ (f : Aba) (values : List AtomLit) (s : List ℕ) (form : IsNumberedAba 
           let told : Affirms values (Hit Own a 1) =
           subst (λ n. Contains values (affirmed (Hit Own a n))) place.1 there in
           subst (λ n. HasHit f s Own a n) (sym place.1)
-          (attack_hits f ok.form s a (hit_attacked a place.0 told))
+          (attack_hits f form.form s a (hit_attacked a place.0 told))
       says_so (Range a) true there fixed = tt
       says_so (Tail a i) true there fixed = tt
       says_so Cf true there mode = conflict_free_so there
