@@ -1,20 +1,19 @@
 //! What sets attack.
 
-ghost use Rattle.std.specs.Prelude.{ℕ, Contains, IfOk, List, OnOk};
-ghost use Rattle.semantics.specs.AbaFrameworks.{Aba};
+ghost use Rattle.std.specs.Prelude.{IfOk, OnOk};
 ghost use Rattle.semantics.specs.Frameworks.{aba, af};
 ghost use Rattle.dung_notions.specs.Ranges.{GainsTargets};
 ghost use Rattle.edit_rules.specs.Kinds.{framework_of};
 ghost use Rattle.answer_claims.specs.SetFacts.{GainsHits, IsHitBy};
 
+use aba_notions::AbaPlain;
 use dung_notions::AfPlain;
 use edit_rules::Framework;
 use lists::Memory;
 use set_lists::NumSet;
 use std::alloc::Global;
 
-/// What some set of a list attacks. It meets each attack that leaves a member of a set once. No claim on an
-/// assumption-based framework speaks of it, and there it is nothing.
+/// What some set of a list attacks.
 pub(crate) fn hit_by(
     alloc: Global,
     framework: &Framework,
@@ -22,37 +21,32 @@ pub(crate) fn hit_by(
 ) -> Result<NumSet, Memory>
     ensures { IfOk result (IsHitBy (framework_of framework.now) sets.now) }
 {
-    match framework {
-        Framework::Af(plain) => {
-            let hit = af_hit_by(alloc, plain, sets)?;
-            Ok(hit)
-        }
-        Framework::Aba(_) => Ok(no_hits(alloc)),
-    }
-}
-
-/// What sets of an assumption-based framework count as attacking.
-fn no_hits(alloc: Global) -> NumSet
-    ensures { (f : Aba) (sets : List (List ℕ)) → IsHitBy (aba f) sets result }
-{
-    NumSet::new(alloc)
-}
-
-/// The same in an abstract framework.
-fn af_hit_by(alloc: Global, plain: &AfPlain, sets: &[NumSet]) -> Result<NumSet, Memory>
-    ensures { IfOk result (IsHitBy (af plain.now) sets.now) }
-{
     let mut found = Vec::new(alloc);
     for index in 0..sets.len() {
-        add_hits(plain, &mut found, &sets[index])?;
+        add_hits(alloc, framework, &mut found, &sets[index])?;
     }
     let hit = NumSet::from_slice(alloc, &found)?;
     Ok(hit)
 }
 
 /// Adds what a set attacks.
-fn add_hits(plain: &AfPlain, found: &mut Vec<u32>, set: &NumSet) -> Result<(), Memory>
-    ensures { OnOk result (GainsHits plain.now set.now found.old.items found.new.items) }
+fn add_hits(
+    alloc: Global,
+    framework: &Framework,
+    found: &mut Vec<u32>,
+    set: &NumSet,
+) -> Result<(), Memory>
+    ensures { OnOk result (GainsHits (framework_of framework.now) set.now found.old.items found.new.items) }
+{
+    match framework {
+        Framework::Af(plain) => add_af_hits(plain, found, set),
+        Framework::Aba(plain) => add_aba_hits(alloc, plain, found, set),
+    }
+}
+
+/// The same in an abstract framework. It meets each attack that leaves a member once.
+fn add_af_hits(plain: &AfPlain, found: &mut Vec<u32>, set: &NumSet) -> Result<(), Memory>
+    ensures { OnOk result (GainsHits (af plain.now) set.now found.old.items found.new.items) }
 {
     for member in set.as_slice() {
         add_targets(plain, found, *member)?;
@@ -68,5 +62,19 @@ fn add_targets(plain: &AfPlain, found: &mut Vec<u32>, argument: u32) -> Result<(
     for pair in targets {
         found.push(pair.1)?;
     }
+    Ok(())
+}
+
+/// The same in an assumption-based framework: the assumptions of which the set derives a contrary.
+fn add_aba_hits(
+    alloc: Global,
+    plain: &AbaPlain,
+    found: &mut Vec<u32>,
+    set: &NumSet,
+) -> Result<(), Memory>
+    ensures { OnOk result (GainsHits (aba plain.now) set.now found.old.items found.new.items) }
+{
+    let attacked = plain.attacked_by(alloc, set)?;
+    found.extend_from_slice(attacked.as_slice())?;
     Ok(())
 }

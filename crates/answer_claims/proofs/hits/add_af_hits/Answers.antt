@@ -1,5 +1,5 @@
 use Rattle.answer_claims.proofs.HitLemmas.{hits_none, hits_more, hits_all}
-use Rattle.answer_claims.proofs.hits.add_hits.Goals as goal
+use Rattle.answer_claims.proofs.hits.add_af_hits.Goals as goal
 
 pub loop-member-init : goal.loop-member-init
 loop-member-init c = hits_none _ _
