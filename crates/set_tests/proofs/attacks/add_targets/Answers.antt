@@ -1,5 +1,5 @@
 use Rattle.dung_notions.proofs.RangeLemmas.{seconds_more, seconds_all}
-use Rattle.answer_claims.proofs.hits.add_targets.Goals as goal
+use Rattle.set_tests.proofs.attacks.add_targets.Goals as goal
 
 pub loop-pair-preserved : goal.loop-pair-preserved
 loop-pair-preserved c = rw c.in_ok-push.ensures.items (seconds_more c.targets_of-targets.result.now
