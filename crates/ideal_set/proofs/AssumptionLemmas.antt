@@ -5,7 +5,6 @@ use Rattle.std.proofs.lemmas.Bool.{false≢true}
 use Rattle.std.specs.List.Sorted.{IsStrictlyIncreasing}
 use Rattle.lists.specs.Members.{IsSetOf, IsWithin}
 use Rattle.lists.proofs.Membership.{Contains-head, Contains-nil}
-use Rattle.semantics.proofs.Decided.{Decided}
 use Rattle.semantics.specs.AbaFrameworks.{Aba, collective_of}
 use Rattle.semantics.specs.Collectives.{Collective, IsAdmissible, IsConflictFree, IsDefended}
 use Rattle.semantics.specs.Frameworks.{aba}

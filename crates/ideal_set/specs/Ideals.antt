@@ -2,7 +2,7 @@
 --
 -- Source: P. M. Dung, P. Mancarella, F. Toni, "Computing ideal sceptical argumentation", Artificial Intelligence 171
 -- (2007): an admissible set that no admissible set attacks lies in every preferred set.
-use Rattle.std.specs.Prelude.{◌≡◌, ◌≢◌, ◌↔◌, ◌⊎◌, ◌<◌, ◌≤◌, ◌+◌, ◌*◌, ℕ, not, List, [], ◌∷◌, ◌++◌, length, filter}
+use Rattle.std.specs.Prelude.{◌≡◌, ◌⊎◌, ◌<◌, ◌≤◌, ◌+◌, ◌*◌, ℕ, not, List, [], ◌∷◌, ◌++◌, length, filter}
 use Rattle.std.specs.Prelude.{Contains, Result, Ok}
 use Rattle.lists.specs.Members.{IsSetOf, IsWithin}
 use Rattle.plain_lits.specs.declared.halt.Halt.{Halt}

@@ -1,11 +1,9 @@
-use Rattle.std.proofs.Common.{◌∙◌, ◌+◌, ap, arith, length, subst, sym}
+use Rattle.std.proofs.Common.{◌∙◌, ◌+◌, arith, length, subst, sym}
 use Rattle.std.proofs.lemmas.Result.{IfOk-from_err}
 use Rattle.semantics.specs.Frameworks.{Framework}
-use Rattle.oracle_face.specs.declared.face.Found.TheVariants.{Set}
-use Rattle.oracle_face.proofs.GrowingLemmas.{grows_same}
 use Rattle.goal_lists.proofs.RunLemmas.{ran_then, then_handed}
 use Rattle.ideal_set.specs.declared.searching.Turn.TheVariants.{AttackedBy, Unattacked}
-use Rattle.ideal_set.specs.Ideals.{AreAttackers, Attacks, IsAsked, IsCutDown, IsFree, MadeForIdeal}
+use Rattle.ideal_set.specs.Ideals.{AreAttackers, IsCutDown, IsFree}
 use Rattle.ideal_set.proofs.IdealLemmas.{attacked_closes, is_ideal, turn_of, unattacked_closes, within_bound}
 use Rattle.ideal_set.proofs.searching.ideal.Goals as goal
 
