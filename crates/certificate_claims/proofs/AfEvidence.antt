@@ -1,6 +1,6 @@
 -- What the rows of the table show that are about ranges, which abstract frameworks alone are asked for: by cases on the
 -- kind.
-use Rattle.std.proofs.Common.{◌≡◌, ◌<◌, ℕ, List, [], ◌∷◌, ◌++◌, length, map, filter, arith, refl}
+use Rattle.std.proofs.Common.{◌≡◌, ◌<◌, ℕ, List, [], ◌∷◌, length, map, filter, arith, refl}
 use Rattle.std.specs.Prelude.{Contains, slice_index_or}
 use Rattle.lists.proofs.Membership.{Contains-nil, Contains-tail}
 use Rattle.iccma_tasks.specs.semantics.specs.declared.mode.Mode.{Mode}

@@ -1,5 +1,5 @@
 -- The ideal set.
-use Rattle.std.proofs.Common.{◌<◌, ℕ, List, [], ◌∷◌, ◌++◌, arith, sym, subst}
+use Rattle.std.proofs.Common.{ℕ, List, [], ◌∷◌, ◌++◌, arith, sym, subst}
 use Rattle.std.specs.Prelude.{Contains}
 use Rattle.lists.specs.Members.{IsWithin}
 use Rattle.lists.proofs.Images.{image_there}
