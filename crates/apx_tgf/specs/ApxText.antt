@@ -25,24 +25,24 @@ tokens_of (byte ∷ more) = if is_blank byte then tokens_of more else
 
 -- a fact: `arg(a).` or `att(a,b).`
 pub data Fact : Type 0 where
-  argument : (name : List ℕ) → Fact
-  attack : (attacker target : List ℕ) → Fact
+  arg : (name : List ℕ) → Fact
+  att : (attacker target : List ℕ) → Fact
 
 -- what stands in the parentheses are names
 abbrev pub HasNames : Fact → Type 0
-HasNames (argument name) = IsName name
-HasNames (attack attacker target) = IsName attacker × IsName target
+HasNames (arg name) = IsName name
+HasNames (att attacker target) = IsName attacker × IsName target
 
 -- the tokens of a fact
 abbrev pub fact_tokens : Fact → List (List ℕ)
-fact_tokens (argument name) = codes "arg" ∷ codes "(" ∷ name ∷ codes ")" ∷ codes "." ∷ []
-fact_tokens (attack attacker target) = codes "att" ∷ codes "(" ∷ attacker ∷ codes "," ∷ target ∷ codes ")"
+fact_tokens (arg name) = codes "arg" ∷ codes "(" ∷ name ∷ codes ")" ∷ codes "." ∷ []
+fact_tokens (att attacker target) = codes "att" ∷ codes "(" ∷ attacker ∷ codes "," ∷ target ∷ codes ")"
     ∷ codes "." ∷ []
 
 -- what a fact on a line says
 abbrev pub statement_of : ℕ → Fact → Statement
-statement_of line (argument name) = declares name
-statement_of line (attack attacker target) = tells (record { line = line; attacker = attacker; target = target })
+statement_of line (arg name) = declares name
+statement_of line (att attacker target) = tells (record { line = line; attacker = attacker; target = target })
 
 -- the tokens are those of these facts, one after the other
 pub record AreFacts (tokens : List (List ℕ)) (facts : List Fact) : Type 0 where

@@ -67,7 +67,7 @@ fn tell_fact<'a>(
     line: usize,
     told: &mut ToldSoFar<'a>,
 ) -> Result<(), Memory>
-    ensures { OnOk result (told.new ≡ told_after told.old (statement_of line (fact_of fact))) }
+    ensures { OnOk result (told.new ≡ told_after told.old (statement_of line (fact_of fact.entry))) }
 {
     match fact {
         ReadFact::Argument(name) => told.declare(name),

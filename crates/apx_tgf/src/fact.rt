@@ -1,6 +1,6 @@
 //! The facts of an APX text.
 
-ghost use Rattle.std.specs.Prelude.{◌≡◌, ◌∷◌, ◌++◌, [], ℕ, List, IfSome, IfNone, IsTrue, OnTrue, OnFalse, codes};
+ghost use Rattle.std.specs.Prelude.{◌≡◌, ◌∷◌, ◌++◌, [], ℕ, List, IfSome, IfNone, codes};
 ghost use Rattle.apx_tgf.specs.Names.{IsName};
 ghost use Rattle.apx_tgf.specs.Facts.{BeginWithFact, BeginWithNoFact};
 ghost use Rattle.apx_tgf.specs.Views.{fact_of};

@@ -58,7 +58,9 @@ impl<'a> Names<'a> {
         ensures within { IfSome result (λ number. number ≤ length self.now) }
         ensures none { IfNone result (¬ Contains self.now name.now) }
     {
+        let count = self.names.len();
         let index = self.names.get_index_of(&name)?;
+        prove!(index < count);
         Some(index + 1)
     }
 

@@ -6,7 +6,7 @@ ghost use Rattle.num_text.specs.Views.{line_text};
 ghost use Rattle.apx_tgf.specs.Taking.{TakesLine, IsNoLine};
 ghost use Rattle.apx_tgf.specs.declared.format.NameFormat.TheVariants.{Tgf};
 ghost use Rattle.apx_tgf.specs.declared.fault.NameCause.TheVariants.{BadLine};
-ghost use Rattle.apx_tgf.specs.declared.fault.ReadFault.TheVariants.{Line};
+ghost use Rattle.apx_tgf.specs.declared.fault.ReadFault.TheVariants.{Line as of_line};
 
 use crate::fault::{NameCause, NameFault, ReadFault};
 use crate::token::is_name;
@@ -40,7 +40,7 @@ fn take_node<'a>(
     mut others: Fields<'a>,
     told: &mut ToldSoFar<'a>,
 ) -> Result<bool, ReadFault>
-    requires { field_texts line.now.text.now ≡ first.now ∷ map (λ f. f.text) others.entry }
+    requires { field_texts line.now.text.now ≡ first.now ∷ map (λ f. f.text) others }
     ensures ok { IfOk result (TakesLine Tgf false (line_text line.now) told.old told.new) }
     ensures fault { IfErr result (IsNoLine Tgf false (line_text line.now)) }
 {
@@ -61,7 +61,7 @@ fn take_edge<'a>(
     mut others: Fields<'a>,
     told: &mut ToldSoFar<'a>,
 ) -> Result<bool, ReadFault>
-    requires { field_texts line.now.text.now ≡ first.now ∷ map (λ f. f.text) others.entry }
+    requires { field_texts line.now.text.now ≡ first.now ∷ map (λ f. f.text) others }
     ensures ok { IfOk result (TakesLine Tgf true (line_text line.now) told.old told.new) }
     ensures fault { IfErr result (IsNoLine Tgf true (line_text line.now)) }
 {
@@ -81,7 +81,7 @@ fn take_edge<'a>(
 
 // That this line is bad.
 fn bad_line(line: usize) -> ReadFault
-    ensures { result ≡ Line (record { line = line; cause = BadLine }) }
+    ensures { result ≡ of_line (record { line = line; cause = BadLine }) }
 {
     ReadFault::Line(NameFault {
         line,

@@ -1,7 +1,7 @@
 //! What the lines of a text tell.
 
-ghost use Rattle.std.specs.Prelude.{◌≡◌, OnOk, OnErr, length, ◌≤◌, IfErr, ◌<◌};
-ghost use Rattle.apx_tgf.specs.Told.{nothing_told, told_after, IsWithinLimits};
+ghost use Rattle.std.specs.Prelude.{◌≡◌, OnOk, length};
+ghost use Rattle.apx_tgf.specs.Told.{nothing_told, told_after};
 ghost use Rattle.apx_tgf.specs.Told.Statement.{declares, tells};
 ghost use Rattle.apx_tgf.specs.Views.{told_attack};
 
@@ -58,7 +58,7 @@ impl<'a> ToldSoFar<'a> {
 
     /// Takes an attack.
     pub fn tell(&mut self, attack: NamedAttack<'a>) -> Result<(), Memory>
-        ensures { OnOk result (self.new ≡ told_after self.old (tells (told_attack attack))) }
+        ensures { OnOk result (self.new ≡ told_after self.old (tells (told_attack attack.entry))) }
     {
         self.attacks.push(attack)
     }
