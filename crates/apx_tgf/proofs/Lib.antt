@@ -1,3 +1,7 @@
+pub mod ApxLemmas
+pub mod LineLemmas
 pub mod NameLemmas
+pub mod ReadingLemmas
+pub mod TgfLemmas
 pub mod ToldLemmas
 pub mod TokenLemmas

@@ -57,5 +57,5 @@ BeginWithPercent (first ∷ more) = slice_index first 0 ≡ 37
 -- the line says these statements: its facts, or nothing where it is a remark
 pub data IsApxLine (line : LineText) (statements : List Statement) : Type 0 where
   remark : BeginWithPercent (field_texts line.text) → statements ≡ [] → IsApxLine line statements
-  facts : (facts : List Fact) → AreFacts (tokens_of line.text) facts
+  facts : (facts : List Fact) → ¬ BeginWithPercent (field_texts line.text) → AreFacts (tokens_of line.text) facts
       → statements ≡ map (statement_of line.number) facts → IsApxLine line statements
