@@ -177,10 +177,10 @@ over_first format divided after line told new TooManyLines takes over = record {
     go format divided after line told new takes few UnknownName stands = absurd stands
 over_first format divided after line told new UnknownName takes over = absurd over
 
-pub over_read : (format : NameFormat) (lines left rest : List LineText) (line : LineText) (divided after : Bool)
+pub over_told : (format : NameFormat) (lines left rest : List LineText) (line : LineText) (divided after : Bool)
     (told new : Told) (fault : NameFault) → HasRead format lines left divided told → left ≡ line ∷ rest
     → TakesLine format divided line told new after → IsOverLimit new line.number fault
     → IsLineFault format lines fault.line fault.cause
-over_read format lines left rest line divided after told new fault h is takes over =
+over_told format lines left rest line divided after told new fault h is takes over =
     fault_told format lines left rest line divided told fault.line fault.cause h is over.line_is
     (over_first format divided after line told new fault.cause takes over.over)

@@ -1,32 +1,32 @@
-use Rattle.std.proofs.Common.{rules, ◌≡◌, ℕ, ◌≤◌, List, length, IfOk, IfErr, OnOk, ◌+◌, ◌-◌, ◌*◌, ◌<◌, ◌/◌, ◌%◌, Bool, true, false, nat_eq, nat_lt, [], ◌∷◌, ◌++◌, slice_index_or, slice_set, bit_and, bit_or, Fits, w8, w32, w64, Bor, MutBor}
-use Rattle.num_text.specs.declared.limit.TheConstants.{MAX_INPUT}
-use Rattle.num_text.specs.Cuts.{lines_of}
-use Rattle.semantics.specs.Framework.{Af}
-use Rattle.semantics.specs.declared.argument.TheConstants.{MAX_ARGUMENT}
-use Rattle.dung_notions.specs.Solid.{IsSolid}
-use Rattle.apx_tgf.specs.declared.format.NameFormat.TheVariants.{Apx, Tgf}
-use Rattle.apx_tgf.specs.declared.fault.NameCause.{NameCause}
-use Rattle.apx_tgf.specs.NamedText.{ReadsAs}
-use Rattle.apx_tgf.specs.Faults.{IsFirstFault, IfLine, IsLineFault}
-use Rattle.apx_tgf.specs.Reading.{TellsAll}
+use Rattle.std.proofs.Common.{false, rules, sym, subst}
+use Rattle.num_text.specs.Views.{line_text}
+use Rattle.apx_tgf.proofs.ReadingLemmas.{HasRead, read_none, read_more, read_all, bad_line_read, over_told}
 use Rattle.apx_tgf.proofs.read.read_lines.Goals as goal
 
--- src/read.rt:102:5
 pub loop-line-init : goal.loop-line-init
-loop-line-init c = ?
+loop-line-init c = subst (λ told. HasRead c.args.format c.args.left c.args.left false told) (sym c.new-told.ensures)
+    (read_none c.args.format c.args.left)
 
--- src/read.rt:103:19
 pub returns-in_err-divided-clause-fault : goal.returns-in_err-divided-clause-fault
-returns-in_err-divided-clause-fault c = ?
+returns-in_err-divided-clause-fault c =
+    let bad = bad_line_read c.args.format c.args.left c.loop-line.left c.next.new.self (line_text c.in-Some.line)
+    c.loop-line.divided c.loop-line.told c.in_err-divided.field-0.0 c.loop-line.invariant c.in-Some.ensures.steps
+    c.in_err-divided.ensures.fault in
+    search (rules, bad)
 
--- src/read.rt:102:5
 pub loop-line-preserved : goal.loop-line-preserved
-loop-line-preserved c = ?
+loop-line-preserved c = read_more c.args.format c.args.left c.loop-line.left c.next.new.self (line_text c.in-Some.line)
+    c.loop-line.divided c.in_ok-divided.divided c.loop-line.told c.take_line.new.told c.loop-line.invariant
+    c.in-Some.ensures.steps c.in_ok-divided.ensures.ok c.in_ok-within_limits.ensures.ok
 
--- src/read.rt:104:9
 pub returns-in_err-within_limits-clause-fault : goal.returns-in_err-within_limits-clause-fault
-returns-in_err-within_limits-clause-fault c = ?
+returns-in_err-within_limits-clause-fault c =
+    let over = over_told c.args.format c.args.left c.loop-line.left c.next.new.self (line_text c.in-Some.line)
+    c.loop-line.divided c.in_ok-divided.divided c.loop-line.told c.take_line.new.told
+    c.in_err-within_limits.field-0.0 c.loop-line.invariant c.in-Some.ensures.steps c.in_ok-divided.ensures.ok
+    c.in_err-within_limits.ensures.fault in
+    search (rules, over)
 
--- src/read.rt:92:1
 pub returns-clause-ok : goal.returns-clause-ok
-returns-clause-ok c = ?
+returns-clause-ok c = read_all c.args.format c.args.left c.loop-line.left c.loop-line.divided c.loop-line.told
+    c.loop-line.invariant c.in_default.ensures.steps.0
