@@ -1,4 +1,6 @@
 pub mod ApxLemmas
+pub mod CommentLemmas
+pub mod DeclaredLemmas
 pub mod FrameworkLemmas
 pub mod LineLemmas
 pub mod NameLemmas

@@ -8,6 +8,7 @@ ghost use Rattle.semantics.specs.declared.argument.TheConstants.{MAX_ARGUMENT};
 ghost use Rattle.dung_notions.specs.Solid.{IsSolid};
 ghost use Rattle.apx_tgf.specs.declared.format.NameFormat.TheVariants.{Apx, Tgf};
 ghost use Rattle.apx_tgf.specs.declared.fault.NameCause.{NameCause};
+ghost use Rattle.apx_tgf.specs.Names.{AreNames};
 ghost use Rattle.apx_tgf.specs.NamedText.{ReadsAs};
 ghost use Rattle.apx_tgf.specs.Faults.{IsFirstFault, IfLine, IsLineFault};
 ghost use Rattle.apx_tgf.specs.Reading.{TellsAll};
@@ -44,6 +45,7 @@ pub fn read_apx<'a>(alloc: Global, bytes: &'a [u8]) -> Result<NamedAf<'a>, ReadF
         → (names ≡ r.names) × (f ≡ r.framework)) }
     ensures solid { IfOk result (λ r. IsSolid r.framework) }
     ensures few { IfOk result (λ r. length r.names ≤ MAX_ARGUMENT) }
+    ensures names { IfOk result (λ r. AreNames r.names) }
     ensures faultless { OnOk result ((line : ℕ) (cause : NameCause) → ¬ IsFirstFault Apx bytes.now line cause) }
     ensures fault { IfErr result (λ e. IfLine e (λ fault. IsFirstFault Apx bytes.now fault.line fault.cause)) }
 {
@@ -58,6 +60,7 @@ pub fn read_tgf<'a>(alloc: Global, bytes: &'a [u8]) -> Result<NamedAf<'a>, ReadF
         → (names ≡ r.names) × (f ≡ r.framework)) }
     ensures solid { IfOk result (λ r. IsSolid r.framework) }
     ensures few { IfOk result (λ r. length r.names ≤ MAX_ARGUMENT) }
+    ensures names { IfOk result (λ r. AreNames r.names) }
     ensures faultless { OnOk result ((line : ℕ) (cause : NameCause) → ¬ IsFirstFault Tgf bytes.now line cause) }
     ensures fault { IfErr result (λ e. IfLine e (λ fault. IsFirstFault Tgf bytes.now fault.line fault.cause)) }
 {
@@ -76,6 +79,7 @@ fn read_named<'a>(
         → (names ≡ r.names) × (f ≡ r.framework)) }
     ensures solid { IfOk result (λ r. IsSolid r.framework) }
     ensures few { IfOk result (λ r. length r.names ≤ MAX_ARGUMENT) }
+    ensures names { IfOk result (λ r. AreNames r.names) }
     ensures faultless { OnOk result ((line : ℕ) (cause : NameCause) → ¬ IsFirstFault format bytes.now line cause) }
     ensures fault { IfErr result (λ e. IfLine e (λ fault. IsFirstFault format bytes.now fault.line fault.cause)) }
 {

@@ -4,6 +4,7 @@ ghost use Rattle.std.specs.Prelude.{◌≡◌, ◌≤◌, ◌++◌, length, IfOk
 ghost use Rattle.dung_notions.specs.Solid.{IsSolid};
 ghost use Rattle.af_format.specs.AfText.{ReadsAs};
 ghost use Rattle.af_format.specs.declared.af_line.TheConstants.{MAX_ATTACK_LINES};
+ghost use Rattle.semantics.specs.declared.argument.TheConstants.{MAX_ARGUMENT};
 ghost use Rattle.apx_tgf.specs.Names.{AreNames};
 ghost use Rattle.apx_tgf.specs.Written.{named_text, name_line, name_lines};
 
@@ -19,8 +20,8 @@ use std::alloc::Global;
 pub fn write_named(alloc: Global, names: &Names<'_>, framework: &AfPlain) -> Result<Bytes, Memory>
     requires { IsSolid framework.now }
     ensures text { IfOk result (λ text. text ≡ named_text names.now framework.now) }
-    ensures back { length framework.now.attacks ≤ MAX_ATTACK_LINES → AreNames names.now
-        → IfOk result (λ text. ReadsAs text framework.now) }
+    ensures back { length framework.now.attacks ≤ MAX_ATTACK_LINES → length names.now ≤ MAX_ARGUMENT
+        → AreNames names.now → IfOk result (λ text. ReadsAs text framework.now) }
 {
     let mut text = name_text(alloc, names)?;
     let framework_text = write_af(alloc, framework)?;

@@ -10,6 +10,7 @@ use Rattle.apx_tgf.specs.Numbered.{AreNumbersOf, IsUnknownFault}
 use Rattle.apx_tgf.specs.Reading.{TellsAll}
 use Rattle.apx_tgf.specs.Views.{told_attack}
 use Rattle.apx_tgf.proofs.FrameworkLemmas.{told_of, few_names, reads_as, ends_are_numbers, unknown_told}
+use Rattle.apx_tgf.proofs.DeclaredLemmas.{ReadsAs-names}
 use Rattle.apx_tgf.proofs.TextLemmas.{ReadsAs-same, ReadsAs-faultless}
 use Rattle.apx_tgf.proofs.read.read_named.Goals as goal
 
@@ -53,3 +54,7 @@ returns-clause-solid c =
 pub returns-clause-faultless : goal.returns-clause-faultless
 returns-clause-faultless c = ReadsAs-faultless c.args.format c.args.bytes.now c.told.inside.names
     c.in_ok-framework.framework (returns-clause-ok c)
+
+pub returns-clause-names : goal.returns-clause-names
+returns-clause-names c = ReadsAs-names c.args.format c.args.bytes.now c.told.inside.names c.in_ok-framework.framework
+    (returns-clause-ok c)
