@@ -46,17 +46,17 @@ distinct_pushed : (names : List (List ℕ)) (name : List ℕ) → AreDistinct na
     → AreDistinct (names ++ name ∷ [])
 distinct_pushed names name h new = record {
   once = λ i j d e less within same.
-    let long = length-append names (name ∷ []) in
-    elim (pushed_cases names name e j within) [
-      | inl there ↦ elim (pushed_cases names name d i (omega arith)) [
-        | inl before ↦ h.once i j d e less there.0 (sym (before.1 d) ∙ same ∙ there.1 e)
-        | inr last ↦ let at = last.0 in let below = there.0 in absurd (omega arith)
-      ]
-      | inr end ↦ elim (pushed_cases names name d i (omega arith)) [
-        | inl before ↦ absurd (new (i, before.0, sym (before.1 name) ∙ same ∙ end.1))
-        | inr last ↦ let at = last.0 in let at' = end.0 in absurd (omega arith)
-      ]
-    ];
+      let long = length-append names (name ∷ []) in
+      elim (pushed_cases names name e j within) [
+        | inl there ↦ elim (pushed_cases names name d i (omega arith)) [
+          | inl before ↦ h.once i j d e less there.0 (sym (before.1 d) ∙ same ∙ there.1 e)
+          | inr last ↦ let at = last.0 in let below = there.0 in absurd (omega arith)
+        ]
+        | inr end ↦ elim (pushed_cases names name d i (omega arith)) [
+          | inl before ↦ absurd (new (i, before.0, sym (before.1 name) ∙ same ∙ end.1))
+          | inr last ↦ let at = last.0 in let at' = end.0 in absurd (omega arith)
+        ]
+      ];
 }
 
 with_name-distinct : (names : List (List ℕ)) (name : List ℕ) → AreDistinct names → AreDistinct (with_name names name)
@@ -104,6 +104,7 @@ number_same names name m n h a b =
       | inl e ↦ inl e
       | inr ne ↦ inr ne
     ]
+
     go : (names : List (List ℕ)) (name : List ℕ) (i j : ℕ) → AreDistinct names → i < length names → j < length names
         → get_or names i name ≡ get_or names j name → i ≡ j
     go names name i j h below below' same = elim (order i j) [
@@ -159,13 +160,13 @@ attacks_told : (names : List (List ℕ)) (attacks : List ToldAttack) (numbers : 
     → AllZip (AreNumbersOf names) attacks numbers → (b a : ℕ) → Contains numbers (b, a) ↔ IsTold names attacks b a
 attacks_told names attacks numbers distinct all b a = (
   λ member.
-    let p = partner (AreNumbersOf names) attacks numbers (b, a) all member in
-    record { attack = p.0; told = p.1; attacker_is = p.2.attacker; target_is = p.2.target },
+      let p = partner (AreNumbersOf names) attacks numbers (b, a) all member in
+      record { attack = p.0; told = p.1; attacker_is = p.2.attacker; target_is = p.2.target },
   λ told.
-    let p = other_partner (AreNumbersOf names) attacks numbers told.attack all told.told in
-    let first = number_same names told.attack.attacker p.0.0 b distinct p.2.attacker told.attacker_is in
-    let second = number_same names told.attack.target p.0.1 a distinct p.2.target told.target_is in
-    subst (λ q. Contains numbers q) (ap (λ m. (m, p.0.1)) first ∙ ap (λ m. (b, m)) second) p.1,
+      let p = other_partner (AreNumbersOf names) attacks numbers told.attack all told.told in
+      let first = number_same names told.attack.attacker p.0.0 b distinct p.2.attacker told.attacker_is in
+      let second = number_same names told.attack.target p.0.1 a distinct p.2.target told.target_is in
+      subst (λ q. Contains numbers q) (ap (λ m. (m, p.0.1)) first ∙ ap (λ m. (b, m)) second) p.1,
 )
 
 -- what these names and attacks tell
@@ -183,8 +184,8 @@ reads_as format bytes names attacks count numbers f all are is made =
       live = made.live ∙ ap (λ n. range_with_len 1 n) is;
       known = all_known names attacks numbers are;
       attacks_are = λ b a.
-        let both = attacks_told names attacks numbers distinct are b a in
-        (λ attacks. both.0 ((made.attacks_are (b, a)).0 attacks), λ told. (made.attacks_are (b, a)).1 (both.1 told));
+          let both = attacks_told names attacks numbers distinct are b a in
+          (λ attacks. both.0 ((made.attacks_are (b, a)).0 attacks), λ told. (made.attacks_are (b, a)).1 (both.1 told));
       form = made.form;
     } in
     record {

@@ -76,9 +76,11 @@ IsTgfLine-same d line s t a b (edge p q l e g i j u v) (node n k e' h j' x y) = 
 IsTgfLine-same d line s t a b (edge p q l e g i j u v) (divides e' h x y) = absurd (both_ways d e e')
 IsTgfLine-same d line s t a b (edge p q l e g i j u v) (edge p' q' l' e' h i' j' x y) =
     let first = firsts (p ∷ q ∷ l) (p' ∷ q' ∷ l') (sym g ∙ h) in
-    let second = seconds (p ∷ q ∷ l) (p' ∷ q' ∷ l') (sym g ∙ h) in
-    (u ∙ ap (λ name. tells (record { line = line.number; attacker = name; target = q }) ∷ []) first
-    ∙ ap (λ name. tells (record { line = line.number; attacker = p'; target = name }) ∷ []) second ∙ sym x, v ∙ sym y)
+    let second = seconds (p ∷ q ∷ l) (p' ∷ q' ∷ l') (sym g ∙ h) in (
+      u ∙ ap (λ name. tells (record { line = line.number; attacker = name; target = q }) ∷ []) first
+          ∙ ap (λ name. tells (record { line = line.number; attacker = p'; target = name }) ∷ []) second ∙ sym x,
+      v ∙ sym y,
+    )
 
 pub SaysLine-same : (format : NameFormat) (d : Bool) (line : LineText) (s t : List Statement) (a b : Bool)
     → SaysLine format d line s a → SaysLine format d line t b → (s ≡ t) × (a ≡ b)

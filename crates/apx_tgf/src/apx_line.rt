@@ -62,11 +62,7 @@ fn take_fact<'a>(
 
 // Takes what a fact on a line says.
 #[inline(always)]
-fn tell_fact<'a>(
-    fact: ReadFact<'a>,
-    line: usize,
-    told: &mut ToldSoFar<'a>,
-) -> Result<(), Memory>
+fn tell_fact<'a>(fact: ReadFact<'a>, line: usize, told: &mut ToldSoFar<'a>) -> Result<(), Memory>
     ensures { OnOk result (told.new ≡ told_after told.old (statement_of line (fact_of fact.entry))) }
 {
     match fact {

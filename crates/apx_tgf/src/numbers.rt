@@ -36,7 +36,10 @@ fn numbers_of(names: &Names<'_>, attack: &NamedAttack<'_>) -> Result<(u32, u32),
     ensures ok { IfOk result (AreNumbersOf names.now (told_attack attack.now)) }
     ensures fault { IfErr result (IsUnknownAttack names.now (told_attack attack.now)) }
 {
-    match (names.number_of(attack.attacker), names.number_of(attack.target)) {
+    match (
+        names.number_of(attack.attacker),
+        names.number_of(attack.target),
+    ) {
         (Some(attacker), Some(target)) => Ok((attacker as u32, target as u32)),
         _ => Err(NameFault {
             line: attack.line,

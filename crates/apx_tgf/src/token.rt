@@ -60,7 +60,11 @@ fn token_length(bytes: &[u8]) -> usize
     ensures token { tokens_of bytes.now ≡ take result bytes.now ∷ tokens_of (drop result bytes.now) }
     ensures within { result ≤ length bytes.now }
 {
-    if is_name_byte(bytes[0]) { name_length(bytes) } else { 1 }
+    if is_name_byte(bytes[0]) {
+        name_length(bytes)
+    } else {
+        1
+    }
 }
 
 // The number of blanks that the bytes begin with.

@@ -39,9 +39,18 @@ fn is_refused(alloc: Global, is_apx: bool, text: &str, line: usize, cause: NameC
 const APX_TEXTS: &[(&str, &str)] = &[
     ("arg(a). arg(b).\natt(a,b).", "# 1 a\n# 2 b\np af 2\n1 2\n"),
     ("", "p af 0\n"),
-    ("att(b,a).\narg(a).arg(b).arg(a).att(b , a) .\n", "# 1 a\n# 2 b\np af 2\n2 1\n"),
-    (" % arg(a\n\t\r\narg( arg ) .att( arg,arg\t)\r.\n%", "# 1 arg\np af 1\n1 1\n"),
-    ("arg(_1).\narg(1).\narg(A_9z).", "# 1 _1\n# 2 1\n# 3 A_9z\np af 3\n"),
+    (
+        "att(b,a).\narg(a).arg(b).arg(a).att(b , a) .\n",
+        "# 1 a\n# 2 b\np af 2\n2 1\n",
+    ),
+    (
+        " % arg(a\n\t\r\narg( arg ) .att( arg,arg\t)\r.\n%",
+        "# 1 arg\np af 1\n1 1\n",
+    ),
+    (
+        "arg(_1).\narg(1).\narg(A_9z).",
+        "# 1 _1\n# 2 1\n# 3 A_9z\np af 3\n",
+    ),
 ];
 
 /// APX texts with a fault.
@@ -69,14 +78,20 @@ fn apx_texts(rt: HostRuntime) {
         assert!(rt; is_written(rt.alloc(), true, text, written), "at {text}");
     }
     for &(text, line, cause) in APX_FAULTS {
-        assert!(rt; is_refused(rt.alloc(), true, text, line, cause), "at {text}");
+        assert!(rt;
+            is_refused(rt.alloc(), true, text, line, cause),
+            "at {text}"
+        );
     }
 }
 
 /// TGF texts, and what is written of each.
 const TGF_TEXTS: &[(&str, &str)] = &[
     ("a\nb\n#\na b", "# 1 a\n# 2 b\np af 2\n1 2\n"),
-    ("a label # x\n\n b\n # \n b a text\nb a\n", "# 1 a\n# 2 b\np af 2\n2 1\n"),
+    (
+        "a label # x\n\n b\n # \n b a text\nb a\n",
+        "# 1 a\n# 2 b\np af 2\n2 1\n",
+    ),
     ("a\na", "# 1 a\np af 1\n"),
     ("#", "p af 0\n"),
 ];
@@ -98,7 +113,10 @@ fn tgf_texts(rt: HostRuntime) {
         assert!(rt; is_written(rt.alloc(), false, text, written), "at {text}");
     }
     for &(text, line, cause) in TGF_FAULTS {
-        assert!(rt; is_refused(rt.alloc(), false, text, line, cause), "at {text}");
+        assert!(rt;
+            is_refused(rt.alloc(), false, text, line, cause),
+            "at {text}"
+        );
     }
 }
 
