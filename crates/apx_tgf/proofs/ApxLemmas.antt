@@ -1,5 +1,5 @@
 -- The facts of a line of an APX text, one after the other.
-use Rattle.std.proofs.Common.{◌≡◌, ℕ, ◌+◌, ◌<◌, Bool, false, List, [], ◌∷◌, ◌++◌, length, drop, get_or, map, refl, sym, ap, subst, ◌∙◌, arith}
+use Rattle.std.proofs.Common.{◌≡◌, ℕ, ◌+◌, ◌<◌, Bool, false, List, [], ◌∷◌, ◌++◌, length, drop, get_or, map, refl, sym, ap, ◌∙◌, arith}
 use Rattle.std.specs.Prelude.{All, fold, IsTrue, ◌↔◌}
 use Rattle.std.specs.List.{flat_map}
 use Rattle.std.proofs.lemmas.List.{append_assoc, append-nil, map-append, length-append}
@@ -8,10 +8,10 @@ use Rattle.std.proofs.lemmas.Bool.{true≢false}
 use Rattle.std.proofs.lemmas.List.Elements.{All-nil, All-cons, All-head, All-tail, All-append}
 use Rattle.num_text.specs.Cuts.{LineText, field_texts}
 use Rattle.apx_tgf.specs.Told.{Told, Statement, told_after, told_after_line}
-use Rattle.apx_tgf.specs.ApxText.{Fact, HasNames, fact_tokens, statement_of, AreFacts, BeginWithPercent, IsApxLine, tokens_of}
+use Rattle.apx_tgf.specs.ApxText.{Fact, HasNames, fact_tokens, statement_of, BeginWithPercent, IsApxLine, tokens_of}
 use Rattle.apx_tgf.specs.ApxText.Fact.{arg, att}
 use Rattle.apx_tgf.specs.ApxText.IsApxLine.{remark, facts}
-use Rattle.apx_tgf.specs.Facts.{BeginWithFact, BeginWithNoFact}
+use Rattle.apx_tgf.specs.Facts.{BeginWithNoFact}
 use Rattle.apx_tgf.specs.declared.fault.ReadFault.{ReadFault}
 use Rattle.apx_tgf.specs.declared.fault.ReadFault.TheVariants.{Line, Memory}
 use Rattle.apx_tgf.specs.Taking.{TakesFact, TakesApxLine, IsNoFactFault, IsNoApxLine}

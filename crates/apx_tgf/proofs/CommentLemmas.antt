@@ -45,7 +45,8 @@ piece_free : (k : ℕ) (name : List ℕ) → k < 2 ^ 32 → IsName name
     → All (λ byte. is_line_end byte ≡ false) (name_piece k name)
 piece_free k name low is =
     let P : ℕ → Type 0 = λ byte. is_line_end byte ≡ false in
-    All-append P (codes "# ") (decimal k ++ (32 ∷ name)) (All-cons P 35 (32 ∷ []) refl (All-cons P 32 [] refl (All-nil P)))
+    All-append P (codes "# ") (decimal k ++ (32 ∷ name))
+    (All-cons P 35 (32 ∷ []) refl (All-cons P 32 [] refl (All-nil P)))
     (All-append P (decimal k) (32 ∷ name) (no_ends (decimal k) (let n = decimal_number k low in n.digits))
     (All-cons P 32 name refl (names_no_ends name is.bytes)))
 
@@ -144,7 +145,8 @@ reads_behind_names names text f few are r =
     ≡ texts_of (kept (lines_from 1 0 (name_lines 1 names ++ text)))
     = ap texts_of (sym r.text.lines) ∙ same_kept_texts text 1 0 behind.number' behind.start'
     ∙ ap texts_of (sym behind.kept_are) in
-    let same = first_and_others r.text.header r.text.others (kept (lines_from 1 0 (name_lines 1 names ++ text))) texts in
+    let same = first_and_others r.text.header r.text.others (kept (lines_from 1 0 (name_lines 1 names ++ text)))
+    texts in
     let long : length r.text.others ≡ length same.others' = sym (length-map r.text.others (λ l. l.text))
     ∙ ap length same.others_are ∙ length-map same.others' (λ l. l.text) in
     record {

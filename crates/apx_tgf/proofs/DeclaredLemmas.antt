@@ -1,5 +1,5 @@
 -- What is declared are names.
-use Rattle.std.proofs.Common.{◌≡◌, ℕ, Bool, true, false, List, [], ◌∷◌, ◌++◌, map, sym, subst}
+use Rattle.std.proofs.Common.{ℕ, Bool, true, false, List, [], ◌∷◌, ◌++◌, map, sym, subst}
 use Rattle.std.specs.Prelude.{All, fold, if◌then◌else◌}
 use Rattle.std.proofs.lemmas.List.Elements.{All-nil, All-cons, All-head, All-tail, All-append}
 use Rattle.num_text.specs.Cuts.{LineText, lines_of}
@@ -7,7 +7,7 @@ use Rattle.semantics.specs.Framework.{Af}
 use Rattle.apx_tgf.specs.declared.format.NameFormat.{NameFormat}
 use Rattle.apx_tgf.specs.declared.format.NameFormat.TheVariants.{Apx, Tgf}
 use Rattle.apx_tgf.specs.Names.{IsName, AreNames, has_name, with_name}
-use Rattle.apx_tgf.specs.Told.{Told, Statement, nothing_told, told_after, told_after_line, told_by}
+use Rattle.apx_tgf.specs.Told.{Told, Statement, nothing_told, told_after, told_after_line}
 use Rattle.apx_tgf.specs.Told.Statement.{declares, tells}
 use Rattle.apx_tgf.specs.ApxText.{Fact, HasNames, statement_of, IsApxLine}
 use Rattle.apx_tgf.specs.ApxText.Fact.{arg, att}

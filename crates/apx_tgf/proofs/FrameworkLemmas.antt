@@ -1,6 +1,6 @@
 -- The framework that is told, by the numbers of names.
 use Rattle.std.proofs.Common.{◌≡◌, ℕ, zero, suc, ◌+◌, ◌<◌, ◌≤◌, Bool, true, false, List, [], ◌∷◌, ◌++◌, length, get_or, refl, sym, ap, subst, ◌∙◌, inl, inr, ◌⊎◌, arith}
-use Rattle.std.specs.Prelude.{Contains, ◌↔◌, Some, fold, slice_get, if◌then◌else◌, nat_eq}
+use Rattle.std.specs.Prelude.{Contains, ◌↔◌, fold, if◌then◌else◌, nat_eq}
 use Rattle.std.specs.List.{AllZip, range_with_len, list_any}
 use Rattle.std.specs.Cmp.Lexicographic.{pointwise, bytes_decides}
 use Rattle.std.proofs.lemmas.Bool.{cond-true, cond-false, true≢false, cases_order}
@@ -9,12 +9,12 @@ use Rattle.std.proofs.lemmas.List.{length-append}
 use Rattle.lists.proofs.ListTests.{any_from}
 use Rattle.lists.proofs.Ranges.{number_there}
 use Rattle.num_text.specs.Cuts.{lines_of}
-use Rattle.semantics.specs.Framework.{Af, Attacks}
+use Rattle.semantics.specs.Framework.{Af}
 use Rattle.semantics.specs.declared.argument.TheConstants.{MAX_ARGUMENT}
 use Rattle.af_format.specs.AfText.{IsFrameworkOf}
 use Rattle.apx_tgf.specs.declared.format.NameFormat.{NameFormat}
 use Rattle.apx_tgf.specs.Names.{has_name, with_name, IsNumberOf}
-use Rattle.apx_tgf.specs.Told.{Told, ToldAttack, Statement, nothing_told, told_after, told_after_line, told_by, IsWithinLimits}
+use Rattle.apx_tgf.specs.Told.{Told, ToldAttack, Statement, nothing_told, told_after, told_after_line, told_by}
 use Rattle.apx_tgf.specs.Told.Statement.{declares, tells}
 use Rattle.apx_tgf.specs.NamedText.{IsTold, IsNamedFramework, ReadsAs}
 use Rattle.apx_tgf.specs.Numbered.{AreNumbersOf, IsUnknownFault}
@@ -22,7 +22,7 @@ use Rattle.apx_tgf.specs.declared.fault.ReadFault.{ReadFault}
 use Rattle.apx_tgf.specs.declared.fault.ReadFault.TheVariants.{Line, Memory}
 use Rattle.apx_tgf.specs.Faults.{IfLine, IsFirstFault, IsFirstUnknown}
 use Rattle.apx_tgf.specs.Reading.{TellsAll}
-use Rattle.apx_tgf.proofs.NumberLemmas.{number_member, all_known}
+use Rattle.apx_tgf.proofs.NumberLemmas.{all_known}
 
 -- ---- no name has two numbers
 
@@ -86,7 +86,8 @@ says-distinct told [] h = h
 says-distinct told (s ∷ says) h = says-distinct (told_after_line told s) says (line-distinct told s h)
 
 pub names-distinct : (says : List (List Statement)) → AreDistinct (told_by says).names
-names-distinct says = says-distinct nothing_told says (record { once = λ i j d e less within same. absurd (omega arith) })
+names-distinct says = says-distinct nothing_told says
+    (record { once = λ i j d e less within same. absurd (omega arith) })
 
 number_same : (names : List (List ℕ)) (name : List ℕ) (m n : ℕ) → AreDistinct names → IsNumberOf names name m
     → IsNumberOf names name n → m ≡ n

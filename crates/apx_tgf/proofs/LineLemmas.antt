@@ -1,9 +1,9 @@
 -- A line of either format says one thing alone.
-use Rattle.std.proofs.Common.{◌≡◌, ℕ, ◌<◌, Bool, true, false, List, [], ◌∷◌, length, get_or, refl, sym, ap, subst, ◌∙◌, arith}
+use Rattle.std.proofs.Common.{◌≡◌, ℕ, Bool, true, false, List, [], ◌∷◌, length, get_or, refl, sym, ap, subst, ◌∙◌, arith}
 use Rattle.std.specs.Prelude.{codes}
 use Rattle.std.proofs.lemmas.Bool.{true≢false}
 use Rattle.std.proofs.lemmas.List.Elements.{All-head}
-use Rattle.num_text.specs.Cuts.{LineText, field_texts}
+use Rattle.num_text.specs.Cuts.{LineText}
 use Rattle.apx_tgf.specs.declared.format.NameFormat.{NameFormat}
 use Rattle.apx_tgf.specs.declared.format.NameFormat.TheVariants.{Apx, Tgf}
 use Rattle.apx_tgf.specs.declared.fault.ReadFault.{ReadFault}

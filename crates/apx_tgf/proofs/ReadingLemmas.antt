@@ -1,6 +1,5 @@
 -- The lines that were read, and those that are left.
 use Rattle.std.proofs.Common.{◌≡◌, ℕ, ◌<◌, ◌≤◌, Bool, false, List, [], ◌∷◌, ◌++◌, length, refl, sym, ap, subst, ◌∙◌, arith}
-use Rattle.std.specs.Prelude.{fold}
 use Rattle.std.proofs.lemmas.List.{append_assoc, append-nil}
 use Rattle.std.proofs.lemmas.Grind.{fold-append}
 use Rattle.num_text.specs.Cuts.{LineText}
@@ -12,9 +11,9 @@ use Rattle.apx_tgf.specs.declared.fault.NameCause.TheVariants.{BadLine, TooManyA
 use Rattle.apx_tgf.specs.declared.fault.NameFault.{NameFault}
 use Rattle.apx_tgf.specs.declared.fault.ReadFault.{ReadFault}
 use Rattle.apx_tgf.specs.declared.fault.ReadFault.TheVariants.{Line, Memory}
-use Rattle.apx_tgf.specs.Told.{Told, Statement, IsWithinLimits, nothing_told, told_by, told_after, told_after_line}
-use Rattle.apx_tgf.specs.NamedText.{SaysLine, SaysFirst, AreSaid}
-use Rattle.apx_tgf.specs.Faults.{rank, SaysSo, StandsAt, IsFirstCause, IsLineFault, IfLine}
+use Rattle.apx_tgf.specs.Told.{Told, Statement, IsWithinLimits, nothing_told, told_by, told_after_line}
+use Rattle.apx_tgf.specs.NamedText.{SaysLine, AreSaid}
+use Rattle.apx_tgf.specs.Faults.{rank, StandsAt, IsFirstCause, IsLineFault, IfLine}
 use Rattle.apx_tgf.specs.Taking.{TakesLine, IsNoLine, IsOver, IsOverLimit}
 use Rattle.apx_tgf.specs.Reading.{TellsAll}
 use Rattle.apx_tgf.proofs.LineLemmas.{SaysLine-same}

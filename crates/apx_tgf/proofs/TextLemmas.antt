@@ -1,6 +1,6 @@
 -- A text has one reading, and no fault beside it.
-use Rattle.std.proofs.Common.{◌≡◌, ℕ, suc, ◌+◌, ◌<◌, ◌≤◌, Bool, true, false, List, [], ◌∷◌, ◌++◌, length, refl, sym, ap, subst, ◌∙◌, inl, inr, ◌⊎◌, arith}
-use Rattle.std.specs.Prelude.{Contains, ◌↔◌, fold, if◌then◌else◌}
+use Rattle.std.proofs.Common.{◌≡◌, ℕ, suc, ◌<◌, ◌≤◌, Bool, true, false, List, [], ◌∷◌, ◌++◌, length, refl, sym, ap, subst, ◌∙◌, inl, inr, arith}
+use Rattle.std.specs.Prelude.{Contains, fold, if◌then◌else◌}
 use Rattle.std.proofs.lemmas.List.{length-append}
 use Rattle.std.proofs.lemmas.Grind.{fold-append}
 use Rattle.num_text.specs.Cuts.{LineText, lines_of}
@@ -12,10 +12,10 @@ use Rattle.apx_tgf.specs.declared.format.NameFormat.{NameFormat}
 use Rattle.apx_tgf.specs.declared.fault.NameCause.{NameCause}
 use Rattle.apx_tgf.specs.declared.fault.NameCause.TheVariants.{BadLine, TooManyArguments, TooManyLines, UnknownName}
 use Rattle.apx_tgf.specs.Names.{has_name, with_name}
-use Rattle.apx_tgf.specs.Told.{Told, Statement, IsWithinLimits, IsKnown, nothing_told, told_by, told_after, told_after_line}
+use Rattle.apx_tgf.specs.Told.{Told, Statement, IsWithinLimits, nothing_told, told_by, told_after, told_after_line}
 use Rattle.apx_tgf.specs.Told.Statement.{declares, tells}
-use Rattle.apx_tgf.specs.NamedText.{SaysLine, SaysFirst, AreSaid, IsNamedFramework, ReadsAs}
-use Rattle.apx_tgf.specs.Faults.{StandsAt, SaysSo, IsLineFault, IsUnknownName, IsFirstFault}
+use Rattle.apx_tgf.specs.NamedText.{SaysLine, AreSaid, IsNamedFramework, ReadsAs}
+use Rattle.apx_tgf.specs.Faults.{StandsAt, IsLineFault, IsUnknownName, IsFirstFault}
 use Rattle.apx_tgf.proofs.LineLemmas.{SaysLine-same}
 
 -- ---- one reading
@@ -103,11 +103,13 @@ line-more told (s ∷ statements) = more_trans told (told_after told s) (told_af
 
 lines-more : (told : Told) (says : List (List Statement)) → IsMore told (fold told_after_line told says)
 lines-more told [] = record { names = omega arith; attacks = omega arith }
-lines-more told (s ∷ says) = more_trans told (told_after_line told s) (fold told_after_line (told_after_line told s) says)
+lines-more told (s ∷ says) = more_trans told (told_after_line told s)
+    (fold told_after_line (told_after_line told s) says)
     (line-more told s) (lines-more (told_after_line told s) says)
 
 -- what is said by lines of which one is told apart
-record IsSplit (format : NameFormat) (d : Bool) (before : List LineText) (bad : LineText) (says : List (List Statement)) : Type 0 where
+record IsSplit (format : NameFormat) (d : Bool) (before : List LineText) (bad : LineText)
+    (says : List (List Statement)) : Type 0 where
   first : List (List Statement)
   divided : Bool
   statements : List Statement

@@ -1,14 +1,14 @@
 -- How the first token is cut off.
-use Rattle.std.proofs.Common.{◌≡◌, ℕ, zero, suc, ◌+◌, ◌-◌, ◌<◌, ◌≤◌, ◌==◌, Bool, true, false, not, List, [], ◌∷◌, length, take, drop, get_or, refl, sym, ap, subst, ◌∙◌, inl, inr, arith, length-drop, get_or-drop}
+use Rattle.std.proofs.Common.{◌≡◌, ℕ, suc, ◌+◌, ◌-◌, ◌<◌, ◌≤◌, ◌==◌, Bool, true, false, not, List, [], ◌∷◌, length, take, drop, get_or, refl, sym, ap, subst, ◌∙◌, inl, inr, arith, length-drop, get_or-drop}
 use Rattle.std.specs.Prelude.{All, ◌↔◌, IsTrue}
 use Rattle.std.specs.List.{position_or_len}
 use Rattle.std.proofs.lemmas.Bool.{cases_Bool, cond-true, cond-false, not_from_true, not_from_false, and_from, and_left, and_right, or_from, eqb-true, eqb-false, eq-eqb, true≢false}
 use Rattle.std.proofs.lemmas.List.{drop-drop, drop_all}
-use Rattle.std.proofs.lemmas.List.Elements.{All-nil, All-cons, All-head, All-tail}
+use Rattle.std.proofs.lemmas.List.Elements.{All-head, All-tail}
 use Rattle.std.proofs.lemmas.List.Sums.{fails_before_first, passes_at_first}
 use Rattle.lists.proofs.TruthValues.{not_not, is_denied}
 use Rattle.num_text.specs.Cuts.{is_blank}
-use Rattle.num_text.proofs.CutLemmas.{rest_whole, position_or_len-le}
+use Rattle.num_text.proofs.CutLemmas.{rest_whole}
 use Rattle.apx_tgf.specs.Names.{is_name_byte, IsName}
 use Rattle.apx_tgf.specs.ApxText.{tokens_of, begins_with_name, with_first_byte}
 

@@ -1,5 +1,5 @@
 -- What is told after one more statement.
-use Rattle.std.proofs.Common.{◌≡◌, ℕ, List, [], ◌∷◌, ◌++◌, map, refl, sym, ap, ◌∙◌}
+use Rattle.std.proofs.Common.{◌≡◌, ℕ, List, [], ◌∷◌, ◌++◌, map, ap, ◌∙◌}
 use Rattle.std.specs.Prelude.{Result, Ok, Err, OnOk}
 use Rattle.std.proofs.lemmas.List.{map-append}
 use Rattle.apx_tgf.specs.Names.{with_name}
@@ -7,7 +7,8 @@ use Rattle.apx_tgf.specs.Told.{Told, ToldAttack, told_after}
 use Rattle.apx_tgf.specs.Told.Statement.{declares, tells}
 
 told_is : (names : List (List ℕ)) (attacks : List ToldAttack) (t : Told)
-    → (let told : Told = record { names = names; attacks = attacks } in told) ≡ t → (names ≡ t.names) × (attacks ≡ t.attacks)
+    → (let told : Told = record { names = names; attacks = attacks } in told) ≡ t
+    → (names ≡ t.names) × (attacks ≡ t.attacks)
 told_is names attacks t e = (ap (λ (u : Told). u.names) e, ap (λ (u : Told). u.attacks) e)
 
 pub declared_next : {E : Type 0} (r : Result (Unit {0}) E) (old : Told) (name : List ℕ)

@@ -1,9 +1,9 @@
 -- The lines of an APX text: facts `arg(a).` and `att(a,b).`, none or more.
-use Rattle.std.specs.Prelude.{◌≡◌, ℕ, ◌⊎◌, ◌&&◌, Bool, false, if◌then◌else◌, List, [], ◌∷◌, ◌++◌, All, map, codes, slice_index}
+use Rattle.std.specs.Prelude.{◌≡◌, ℕ, ◌&&◌, Bool, false, if◌then◌else◌, List, [], ◌∷◌, All, map, codes, slice_index}
 use Rattle.std.specs.List.{flat_map}
 use Rattle.num_text.specs.Cuts.{LineText, is_blank, field_texts}
 use Rattle.apx_tgf.specs.Names.{is_name_byte, IsName}
-use Rattle.apx_tgf.specs.Told.{Statement, ToldAttack}
+use Rattle.apx_tgf.specs.Told.{Statement}
 use Rattle.apx_tgf.specs.Told.Statement.{declares, tells}
 
 -- whether the text begins with a byte of a name

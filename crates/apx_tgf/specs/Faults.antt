@@ -27,7 +27,8 @@ rank TooManyLines = 3
 rank UnknownName = 4
 
 -- the line says something, of which P holds where so much is told before it
-pub record SaysSo (format : NameFormat) (told : Told) (divided : Bool) (line : LineText) (P : Told → Type 0) : Type 0 where
+pub record SaysSo (format : NameFormat) (told : Told) (divided : Bool) (line : LineText)
+    (P : Told → Type 0) : Type 0 where
   pub statements : List Statement
   pub after : Bool
   pub line_is : SaysLine format divided line statements after
@@ -44,7 +45,8 @@ StandsAt format told divided line TooManyLines =
 StandsAt format told divided line UnknownName = ⊥
 
 -- of the causes that stand at the line, this one is told
-pub record IsFirstCause (format : NameFormat) (told : Told) (divided : Bool) (line : LineText) (cause : NameCause) : Type 0 where
+pub record IsFirstCause (format : NameFormat) (told : Told) (divided : Bool) (line : LineText)
+    (cause : NameCause) : Type 0 where
   pub stands : StandsAt format told divided line cause
   pub first : (other : NameCause) → StandsAt format told divided line other → rank cause ≤ rank other
 
@@ -71,7 +73,8 @@ pub record IsFirstUnknown (names : List (List ℕ)) (attacks : List ToldAttack) 
   pub is_unknown : ¬ IsKnown names unknown
   pub line_is : line ≡ unknown.line
 
--- all lines say something, within the limits, and the first attack with a name that none of them declares stands at this line
+-- all lines say something, within the limits, and the first attack with a name that none of them declares stands at
+-- this line
 pub record IsUnknownName (format : NameFormat) (lines : List LineText) (line : ℕ) (cause : NameCause) : Type 0 where
   pub says : List (List Statement)
   pub last : Bool

@@ -17,7 +17,8 @@ SaysLine Apx divided line statements after = IsApxLine line statements × (after
 SaysLine Tgf divided line statements after = IsTgfLine divided line statements after
 
 -- a line says the first of the statements, and the others go on from there
-pub record SaysFirst (format : NameFormat) (divided : Bool) (line : LineText) (statements : List Statement) (Rest : Bool → Type 0) : Type 0 where
+pub record SaysFirst (format : NameFormat) (divided : Bool) (line : LineText) (statements : List Statement)
+    (Rest : Bool → Type 0) : Type 0 where
   pub after : Bool
   pub line_is : SaysLine format divided line statements after
   pub rest : Rest after

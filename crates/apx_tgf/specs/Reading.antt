@@ -1,5 +1,5 @@
 -- What lines tell together.
-use Rattle.std.specs.Prelude.{◌≡◌, ℕ, Bool, false, List}
+use Rattle.std.specs.Prelude.{◌≡◌, Bool, false, List}
 use Rattle.num_text.specs.Cuts.{LineText}
 use Rattle.apx_tgf.specs.declared.format.NameFormat.{NameFormat}
 use Rattle.apx_tgf.specs.Told.{Told, Statement, IsWithinLimits, told_by}

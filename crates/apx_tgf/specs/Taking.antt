@@ -29,7 +29,8 @@ abbrev pub IsNoFactFault : ℕ → List (List ℕ) → ReadFault → Type 0
 IsNoFactFault line tokens e = IsBadLine line (BeginWithNoFact tokens) e
 
 -- what the line says is told
-pub record TakesLine (format : NameFormat) (divided : Bool) (line : LineText) (old new : Told) (after : Bool) : Type 0 where
+pub record TakesLine (format : NameFormat) (divided : Bool) (line : LineText) (old new : Told)
+    (after : Bool) : Type 0 where
   pub statements : List Statement
   pub line_is : SaysLine format divided line statements after
   pub new_is : new ≡ told_after_line old statements

@@ -1,5 +1,4 @@
 -- What contracts see of what holds references to the text.
-use Rattle.std.specs.Prelude.{ℕ, List, map}
 use Rattle.apx_tgf.specs.declared.told.NamedAttack.{NamedAttack}
 use Rattle.apx_tgf.specs.declared.fact.ReadFact.{ReadFact}
 use Rattle.apx_tgf.specs.declared.fact.ReadFact.TheVariants.{Argument, Attack}

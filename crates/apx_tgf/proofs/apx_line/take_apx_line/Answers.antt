@@ -1,4 +1,4 @@
-use Rattle.std.proofs.Common.{◌∷◌, rules, sym, subst}
+use Rattle.std.proofs.Common.{rules, sym, subst}
 use Rattle.num_text.specs.Views.{line_text}
 use Rattle.apx_tgf.specs.ApxText.{tokens_of}
 use Rattle.apx_tgf.specs.Taking.{TakesFact}

@@ -1,4 +1,4 @@
-use Rattle.std.proofs.Common.{[], ◌≤◌, length, map, take, rules, sym, subst, arith}
+use Rattle.std.proofs.Common.{[], map, rules, sym, subst, arith}
 use Rattle.std.specs.List.{AllZip}
 use Rattle.std.proofs.lemmas.List.{take_all, length-map}
 use Rattle.apx_tgf.specs.Numbered.{AreNumbersOf}

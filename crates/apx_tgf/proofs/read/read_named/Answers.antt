@@ -5,11 +5,10 @@ use Rattle.af_format.proofs.Reading.{read_is_solid}
 use Rattle.semantics.specs.declared.argument.TheConstants.{MAX_ARGUMENT}
 use Rattle.std.specs.Prelude.{◌≤◌}
 use Rattle.apx_tgf.specs.Faults.{IfLine}
-use Rattle.apx_tgf.specs.NamedText.{ReadsAs}
 use Rattle.apx_tgf.specs.Numbered.{AreNumbersOf, IsUnknownFault}
 use Rattle.apx_tgf.specs.Reading.{TellsAll}
 use Rattle.apx_tgf.specs.Views.{told_attack}
-use Rattle.apx_tgf.proofs.FrameworkLemmas.{told_of, few_names, reads_as, ends_are_numbers, unknown_told}
+use Rattle.apx_tgf.proofs.FrameworkLemmas.{few_names, reads_as, ends_are_numbers, unknown_told}
 use Rattle.apx_tgf.proofs.DeclaredLemmas.{ReadsAs-names}
 use Rattle.apx_tgf.proofs.TextLemmas.{ReadsAs-same, ReadsAs-faultless}
 use Rattle.apx_tgf.proofs.read.read_named.Goals as goal

@@ -1,4 +1,4 @@
-use Rattle.std.proofs.Common.{length, sym, ap, ◌∙◌, arith}
+use Rattle.std.proofs.Common.{sym, ap, ◌∙◌, arith}
 use Rattle.std.proofs.lemmas.List.{take_all}
 use Rattle.apx_tgf.specs.Written.{name_lines}
 use Rattle.apx_tgf.proofs.WrittenLemmas.{no_names_written, name_written}

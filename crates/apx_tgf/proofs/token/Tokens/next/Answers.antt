@@ -1,4 +1,4 @@
-use Rattle.std.proofs.Common.{◌+◌, ◌<◌, sym, ◌∙◌, length, arith}
+use Rattle.std.proofs.Common.{◌+◌, sym, ◌∙◌, arith}
 use Rattle.std.proofs.lemmas.Bool.{eqb-true, eqb-false}
 use Rattle.num_text.proofs.CutLemmas.{rest_length}
 use Rattle.apx_tgf.proofs.TokenLemmas.{first_is_no_blank, next_token, last_token}
