@@ -25,9 +25,11 @@ pub returns-in_err-take_fact-clause-fault : goal.returns-in_err-take_fact-clause
 returns-in_err-take_fact-clause-fault c =
     let bad = bad_line_told (line_text c.args.line.now) c.in-Some.first.now c.loop-first.tokens c.next.new.self
     c.args.told.now c.loop-first.told c.in_err-take_fact.field-0.0
-    (otherwise _ _ c.is_remark.ensures c.if-is_remark.false) c.loop-first.invariant c.in-Some.ensures.some c.in_err-take_fact.ensures.fault in
+    (otherwise _ _ c.is_remark.ensures c.if-is_remark.false) c.loop-first.invariant c.in-Some.ensures.some
+    c.in_err-take_fact.ensures.fault in
     search (rules, bad)
 
 pub returns-clause-ok : goal.returns-clause-ok
 returns-clause-ok c = taken_all (line_text c.args.line.now) c.loop-first.tokens c.args.told.now c.loop-first.told
-    (otherwise _ _ c.is_remark.ensures c.if-is_remark.false) c.loop-first.invariant c.in_default.ensures.none
+    (otherwise _ _ c.is_remark.ensures c.if-is_remark.false) c.loop-first.invariant
+    c.in_default.ensures.none
