@@ -1,0 +1,109 @@
+//! The steps that have passed the hint check.
+
+ghost use Rattle.std.specs.Prelude.{◌≡◌, ◌∷◌, ◌++◌, [], length, IfOk, OnOk};
+ghost use Rattle.plain_lits.specs.Checking.{IsPackable};
+ghost use Rattle.lrat_text.specs.Checking.{Takes, HasRoom};
+
+use crate::cnf::Cnf;
+use crate::ids::name_hints;
+use crate::lrat_line::StepText;
+use lists::Memory;
+use plain_lits::check::check;
+use plain_lits::{Lit, PackedLit, Rows, StepId, Trail};
+use std::alloc::Global;
+use std::marker::Model;
+
+/// What a line of a refutation comes to.
+#[derive(Clone, Copy)]
+pub(crate) enum Taken {
+    /// It fails the hint check.
+    Failed,
+    /// It passes, and has a literal.
+    Passed,
+    /// It passes, and has no literal.
+    Empty,
+}
+
+/// The clauses of a CNF, and behind them those of the lines that passed. Each line is checked over all of them, with
+/// marks that are taken back after it, so that it costs the literals of its own clause and of those that its hints name.
+#[derive(Drop)]
+pub(crate) struct Steps {
+    vars: u32,
+    count: u32,
+    ids: Vec<u32>,
+    clauses: Rows<PackedLit>,
+    trail: Trail,
+    named: Vec<StepId>,
+    packed: Vec<PackedLit>,
+}
+
+// Packs the literals of a clause.
+fn pack_into(packed: &mut Vec<PackedLit>, clause: &[Lit]) -> Result<(), Memory>
+    requires { IsPackable clause.now }
+    ensures { OnOk result (packed.new.items ≡ clause.now) }
+{
+    packed.clear();
+    for lit in clause {
+        packed.push(PackedLit::pack(*lit))?;
+    }
+    Ok(())
+}
+
+impl Steps {
+    /// The clauses of a CNF.
+    pub(crate) fn new(alloc: Global, cnf: Cnf) -> Result<Steps, Memory> {
+        let (vars, clauses) = cnf.into_parts();
+        let mut trail = Trail::new(alloc);
+        trail.make_room(vars as usize + 1)?;
+        Ok(Steps {
+            vars,
+            count: clauses.len() as u32,
+            ids: Vec::new(alloc),
+            clauses,
+            trail,
+            named: Vec::new(alloc),
+            packed: Vec::new(alloc),
+        })
+    }
+
+    /// How many variables there are.
+    pub(crate) fn vars(&self) -> u32 {
+        self.vars
+    }
+
+    /// The last id: that of the last line that passed, or the number of the CNF's clauses.
+    pub(crate) fn last(&self) -> u32 {
+        match self.ids.last() {
+            Some(id) => *id,
+            None => self.count,
+        }
+    }
+
+    /// Checks a line, and adds its clause where it passes and has a literal.
+    pub(crate) fn take(&mut self, id: u32, line: &StepText) -> Result<Taken, Memory> {
+        let literals = line.literals.as_slice();
+        name_hints(
+            self.ids.as_slice(),
+            self.count,
+            line.hints.as_slice(),
+            &mut self.named,
+        )?;
+        if check(
+            &mut self.trail,
+            &self.clauses,
+            literals,
+            self.named.as_slice(),
+        )
+        .is_err()
+        {
+            return Ok(Taken::Failed);
+        }
+        if literals.is_empty() {
+            return Ok(Taken::Empty);
+        }
+        pack_into(&mut self.packed, literals)?;
+        self.ids.push(id)?;
+        self.clauses.push(self.packed.as_slice())?;
+        Ok(Taken::Passed)
+    }
+}
