@@ -5,6 +5,10 @@ use Rattle.std.specs.List.Sorted.{IsStrictlyIncreasing}
 use Rattle.plain_lits.specs.declared.lit.Lit.{Lit}
 use Rattle.plain_lits.specs.Literals.{negation}
 use Rattle.plain_lits.specs.HintCheck.{Checks}
+use Rattle.plain_lits.specs.Checking.{HaveRoomFor}
+use Rattle.lrat_text.specs.declared.cnf.TheConstants.{MAX_VARIABLE}
+use Rattle.lrat_text.specs.declared.steps.Taken.{Taken}
+use Rattle.lrat_text.specs.declared.steps.Taken.TheVariants.{Failed, Passed, Empty}
 use Rattle.lrat_text.specs.declared.verdict.Verdict.{Verdict}
 use Rattle.lrat_text.specs.declared.verdict.Verdict.TheVariants.{Verified, RejectedStep, NoEmptyClause}
 
@@ -66,3 +70,38 @@ pub record AreIds (count : ℕ) (ids : List ℕ) : Type 0 where
   pub rise : IsStrictlyIncreasing ids
   pub above : (id : ℕ) → Contains ids id → count < id
   pub fit : (id : ℕ) → Contains ids id → id < 2 ^ 32
+
+-- how many variables and how many clauses the CNF has, the ids of the lines that passed, and the clauses of all steps
+pub record CheckState : Type 0 where
+  pub vars : ℕ
+  pub count : ℕ
+  pub ids : List ℕ
+  pub clauses : List (List Lit)
+
+abbrev pub check_state : ℕ → ℕ → List ℕ → List (List Lit) → CheckState
+check_state vars count ids clauses = record { vars = vars; count = count; ids = ids; clauses = clauses }
+
+-- the steps of a state
+abbrev pub steps_in : CheckState → StepList
+steps_in s = step_list (range_with_len 1 s.count ++ s.ids) s.clauses
+
+-- no id of the state is over this one
+pub record IsLast (last : ℕ) (s : CheckState) : Type 0 where
+  pub count : s.count ≤ last
+  pub ids : (id : ℕ) → Contains s.ids id → id ≤ last
+
+-- each clause of the state has its id, between two checks no literal is assumed, and each variable has room
+pub record IsCheckState (s : CheckState) (truths : List Lit) (room : ℕ) : Type 0 where
+  pub ids : AreIds s.count s.ids
+  pub long : length s.clauses ≡ s.count + length s.ids
+  pub clear : truths ≡ []
+  pub clauses_room : HaveRoomFor room s.clauses
+  pub vars_room : s.vars < room
+  pub few : s.vars ≤ MAX_VARIABLE
+
+-- what becomes of a line
+abbrev pub TakenAs : CheckState → CheckState → StepLine → Taken → Type 0
+TakenAs before after line Failed = Fails (steps_in before) line × (after ≡ before)
+TakenAs before after line Empty = Passes (steps_in before) line × (line.clause ≡ []) × (after ≡ before)
+TakenAs before after line Passed = Passes (steps_in before) line × (line.clause ≢ [])
+    × (after ≡ check_state before.vars before.count (before.ids ++ line.id ∷ []) (before.clauses ++ line.clause ∷ []))

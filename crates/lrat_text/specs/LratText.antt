@@ -11,7 +11,7 @@ use Rattle.lrat_text.specs.declared.fault.LratFault.{LratFault}
 use Rattle.lrat_text.specs.declared.fault.LratFault.TheVariants.{At, Memory}
 use Rattle.lrat_text.specs.declared.verdict.Verdict.{Verdict}
 use Rattle.lrat_text.specs.Causes.{IsFirstLratCause}
-use Rattle.lrat_text.specs.Checking.{StepLine, ComesTo, steps_of}
+use Rattle.lrat_text.specs.Checking.{StepLine, StepList, ComesTo, steps_of}
 use Rattle.lrat_text.specs.CnfText.{Formula}
 use Rattle.lrat_text.specs.Lines.{lrat_kept}
 use Rattle.lrat_text.specs.Numbers.{IsSigned, SpellsLit, HasNoNumber, HasNoSigned, is_zero, before_zero, behind_zero}
@@ -106,3 +106,32 @@ IsChecked f bytes (Ok verdict) =
 IsChecked f bytes (Err (At line cause)) =
     IsFirstFault f.vars (length f.clauses) (lrat_kept (lines_of bytes)) line cause
 IsChecked f bytes (Err Memory) = Unit {0}
+
+-- ---- the course of a check
+
+-- from lines behind a last id to those that are left behind another one: whatever the lines that are left come to, all
+-- these lines come to it
+pub record GoesOn (vars : ℕ) (last : ℕ) (steps : StepList) (lines : List LineText) (new_last : ℕ) (new_steps : StepList)
+    (left : List LineText) : Type 0 where
+  pub good : (more : List StepLine) (verdict : Verdict) → AreSteps vars new_last left more
+      → ComesTo new_steps more verdict
+      → (all : List StepLine) × AreSteps vars last lines all × ComesTo steps all verdict
+  pub bad : (line : ℕ) (cause : LratCause) → IsFirstFault vars new_last left line cause
+      → IsFirstFault vars last lines line cause
+
+-- the lines up to those that are left come to a verdict, whatever these are
+pub record IsJudged (vars : ℕ) (last : ℕ) (steps : StepList) (lines : List LineText) (new_last : ℕ)
+    (left : List LineText) (verdict : Verdict) : Type 0 where
+  pub good : (more : List StepLine) → AreSteps vars new_last left more
+      → (all : List StepLine) × AreSteps vars last lines all × ComesTo steps all verdict
+  pub bad : (line : ℕ) (cause : LratCause) → IsFirstFault vars new_last left line cause
+      → IsFirstFault vars last lines line cause
+
+-- the fault, where it tells a line, is the first of these lines
+abbrev pub IsFaultOf : ℕ → ℕ → List LineText → LratFault → Type 0
+IsFaultOf vars last lines (At line cause) = IsFirstFault vars last lines line cause
+IsFaultOf vars last lines Memory = Unit {0}
+
+-- the lines are steps
+abbrev pub AreSomeSteps : ℕ → ℕ → List LineText → Type 0
+AreSomeSteps vars last lines = (steps : List StepLine) × AreSteps vars last lines steps

@@ -6,7 +6,8 @@ ghost use Rattle.num_text.specs.Numerals.{IsReadNumber};
 ghost use Rattle.num_text.specs.declared.limit.TheConstants.{MAX_INPUT};
 ghost use Rattle.lrat_text.specs.Lines.{cnf_kept};
 ghost use Rattle.lrat_text.specs.CnfText.{IsHeader, IsCnfRead, BeginWith, IsBadHeader, HeaderStands, adds, cut, LineSays};
-ghost use Rattle.lrat_text.specs.CnfText.{ReadsFrom, no_cut, CnfAt, IsFirstCnfCause};
+ghost use Rattle.lrat_text.specs.CnfText.{ReadsFrom, no_cut};
+ghost use Rattle.lrat_text.specs.Causes.{IsFirstCnfCause};
 
 use crate::fault::{CnfCause, CnfFault};
 use crate::signed::signed;
@@ -162,7 +163,7 @@ fn read_line(
     let mut outside = false;
     let mut parts = fields(line);
     while let Some(field) = parts.next_number() {
-        let Some(lit) = signed(field) else {
+        let Some(lit) = signed(field.text, field.number) else {
             return Ok(Some(CnfCause::BadNumber));
         };
         if lit.var > vars as usize {

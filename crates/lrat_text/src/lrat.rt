@@ -1,9 +1,11 @@
 //! The check of a CNF with the text of a refutation.
 
-ghost use Rattle.std.specs.Prelude.{◌≡◌, ◌≤◌, length, Ok, Err};
+ghost use Rattle.std.specs.Prelude.{◌≡◌, ◌≤◌, length, Ok, IfOk, IfErr, OnOk};
 ghost use Rattle.num_text.specs.declared.limit.TheConstants.{MAX_INPUT};
 ghost use Rattle.lrat_text.specs.declared.verdict.Verdict.TheVariants.{Verified};
-ghost use Rattle.lrat_text.specs.LratText.{IsChecked};
+ghost use Rattle.lrat_text.specs.LratText.{IsChecked, IsJudged, IsFaultOf, AreSomeSteps};
+ghost use Rattle.lrat_text.specs.Lines.{lrat_kept};
+ghost use Rattle.lrat_text.specs.Checking.{steps_in, IsLast};
 ghost use Rattle.lrat_text.specs.Unsatisfiable.{HasNoModel};
 
 use crate::cnf::Cnf;
@@ -22,7 +24,12 @@ fn judge(
     steps: &mut Steps,
     step: &mut StepText,
     last: &mut u32,
-) -> Result<Verdict, LratFault> {
+) -> Result<Verdict, LratFault>
+    requires { IsLast last.old steps.old }
+    ensures judged { IfOk result
+        (IsJudged steps.old.vars last.old (steps_in steps.old) (lrat_kept left.old) last.new (lrat_kept left.new)) }
+    ensures fault { IfErr result (IsFaultOf steps.old.vars last.old (lrat_kept left.old)) }
+{
     while let Some(line) = next_lrat_line(left) {
         let id = read_step(&line, steps.vars(), *last, step)?;
         *last = id;
@@ -41,7 +48,10 @@ fn read_rest(
     vars: u32,
     mut last: u32,
     step: &mut StepText,
-) -> Result<(), LratFault> {
+) -> Result<(), LratFault>
+    ensures good { OnOk result (AreSomeSteps vars last (lrat_kept left.entry)) }
+    ensures fault { IfErr result (IsFaultOf vars last (lrat_kept left.entry)) }
+{
     while let Some(line) = next_lrat_line(&mut left) {
         last = read_step(&line, vars, last, step)?;
     }
@@ -63,7 +73,7 @@ pub fn check_lrat(alloc: Global, cnf: Cnf, bytes: &[u8]) -> Result<Verdict, Lrat
     let mut steps = Steps::new(alloc, cnf)?;
     let mut step = StepText::new(alloc);
     let vars = steps.vars();
-    let mut last = steps.last();
+    let mut last = steps.count();
     let verdict = judge(&mut left, &mut steps, &mut step, &mut last)?;
     read_rest(left, vars, last, &mut step)?;
     Ok(verdict)

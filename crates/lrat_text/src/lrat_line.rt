@@ -4,13 +4,14 @@ ghost use Rattle.std.specs.Prelude.{◌≡◌, ◌↔◌, ℕ, ◌≤◌, ◌<�
 ghost use Rattle.num_text.specs.Cuts.{field_texts};
 ghost use Rattle.num_text.specs.Numerals.{IsReadNumber};
 ghost use Rattle.lrat_text.specs.Numbers.{is_zero, before_zero, behind_zero, HasZero};
-ghost use Rattle.lrat_text.specs.LratText.{IsStepLine, FaultsAt, IsFirstLratCause, LineStands};
+ghost use Rattle.lrat_text.specs.LratText.{IsStepLine, FaultsAt, LineStands};
+ghost use Rattle.lrat_text.specs.Causes.{IsFirstLratCause};
 ghost use Rattle.lrat_text.specs.LratText.{LiteralsSay, HintsSay};
 
 use crate::fault::{LratCause, LratFault};
 use crate::signed::signed;
 use lists::Memory;
-use num_text::{Fields, Line, NumberField, fields};
+use num_text::{Fields, Line, fields};
 use plain_lits::Lit;
 use std::alloc::Global;
 
@@ -52,15 +53,16 @@ fn is_zero(text: &[u8]) -> bool
 // Adds a literal, where nothing is wrong so far, and tells what is wrong now.
 fn add_literal(
     cause: Option<LratCause>,
-    field: NumberField<'_>,
+    text: &[u8],
+    number: Option<u32>,
     vars: u32,
     literals: &mut Vec<Lit>,
 ) -> Result<Option<LratCause>, Memory>
-    requires { IsReadNumber field.text.now field.number }
+    requires { IsReadNumber text.now number }
     ensures { IfOk result (λ now. (front : List (List ℕ)) → LiteralsSay vars front literals.old.items cause
-        → LiteralsSay vars (front ++ field.text.now ∷ []) literals.new.items now) }
+        → LiteralsSay vars (front ++ text.now ∷ []) literals.new.items now) }
 {
-    let Some(lit) = signed(field) else {
+    let Some(lit) = signed(text, number) else {
         return Ok(Some(LratCause::BadNumber));
     };
     if cause.is_some() {
@@ -76,20 +78,21 @@ fn add_literal(
 // Adds a hint, where nothing is wrong so far, and tells what is wrong now.
 fn add_hint(
     cause: Option<LratCause>,
-    field: NumberField<'_>,
+    text: &[u8],
+    number: Option<u32>,
     hints: &mut Vec<u32>,
 ) -> Result<Option<LratCause>, Memory>
-    requires { IsReadNumber field.text.now field.number }
+    requires { IsReadNumber text.now number }
     ensures { IfOk result (λ now. (front : List (List ℕ)) → HintsSay front hints.old.items cause
-        → HintsSay (front ++ field.text.now ∷ []) hints.new.items now) }
+        → HintsSay (front ++ text.now ∷ []) hints.new.items now) }
 {
-    let Some(number) = field.number else {
+    let Some(hint) = number else {
         return Ok(Some(LratCause::BadNumber));
     };
     if cause.is_some() {
         return Ok(cause);
     }
-    hints.push(number)?;
+    hints.push(hint)?;
     Ok(None)
 }
 
@@ -117,7 +120,7 @@ fn read_literals(
             });
         }
         filled = true;
-        cause = add_literal(cause, field, vars, literals)?;
+        cause = add_literal(cause, field.text, field.number, vars, literals)?;
     }
     Ok(Part {
         closed: false,
@@ -146,7 +149,7 @@ fn read_hints(rest: &mut Fields<'_>, hints: &mut Vec<u32>) -> Result<Part, Memor
             });
         }
         filled = true;
-        cause = add_hint(cause, field, hints)?;
+        cause = add_hint(cause, field.text, field.number, hints)?;
     }
     Ok(Part {
         closed: false,

@@ -1,11 +1,11 @@
 //! Numbers with a sign.
 
-ghost use Rattle.std.specs.Prelude.{◌≡◌, IfSome, IfNone, ◌∷◌};
+ghost use Rattle.std.specs.Prelude.{◌≡◌, ℕ, List, ◌∷◌, IfSome, IfNone};
 ghost use Rattle.num_text.specs.Numerals.{IsReadNumber};
 ghost use Rattle.plain_lits.specs.declared.lit.Lit.{Lit as Signed};
 ghost use Rattle.lrat_text.specs.Numbers.{IsSigned};
 
-use num_text::{NumberField, decimal};
+use num_text::decimal;
 use plain_lits::Lit;
 
 // The digits behind a `-`.
@@ -19,19 +19,19 @@ fn negated(text: &[u8]) -> Option<&[u8]>
     }
 }
 
-/// The number of a field as a variable, behind `-` as its negation. The variable may be 0.
-pub(crate) fn signed(field: NumberField<'_>) -> Option<Lit>
-    requires { IsReadNumber field.text.now field.number }
-    ensures some { IfSome result (IsSigned field.text.now) }
-    ensures none { IfNone result ((l : Signed) → ¬ IsSigned field.text.now l) }
+/// The number that a field's text spells as a variable, behind `-` as its negation. The variable may be 0.
+pub(crate) fn signed(text: &[u8], number: Option<u32>) -> Option<Lit>
+    requires { IsReadNumber text.now number }
+    ensures some { IfSome result (IsSigned text.now) }
+    ensures none { IfNone result ((l : Signed) → ¬ IsSigned text.now l) }
 {
-    if let Some(number) = field.number {
+    if let Some(number) = number {
         return Some(Lit {
             var: number as usize,
             positive: true,
         });
     }
-    let digits = negated(field.text)?;
+    let digits = negated(text)?;
     let number = decimal(digits)?;
     Some(Lit {
         var: number as usize,

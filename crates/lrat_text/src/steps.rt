@@ -1,8 +1,9 @@
 //! The steps that have passed the hint check.
 
-ghost use Rattle.std.specs.Prelude.{◌≡◌, ◌∷◌, ◌++◌, [], length, IfOk, OnOk};
+ghost use Rattle.std.specs.Prelude.{◌≡◌, ℕ, ◌<◌, ◌≤◌, [], length, IfOk, OnOk, Contains};
 ghost use Rattle.plain_lits.specs.Checking.{IsPackable};
-ghost use Rattle.lrat_text.specs.Checking.{Takes, HasRoom};
+ghost use Rattle.plain_lits.specs.declared.lit.Lit.{Lit as Literal};
+ghost use Rattle.lrat_text.specs.Checking.{TakenAs, IsLast, step_line, check_state};
 
 use crate::cnf::Cnf;
 use crate::ids::name_hints;
@@ -26,7 +27,6 @@ pub(crate) enum Taken {
 
 /// The clauses of a CNF, and behind them those of the lines that passed. Each line is checked over all of them, with
 /// marks that are taken back after it, so that it costs the literals of its own clause and of those that its hints name.
-#[derive(Drop)]
 pub(crate) struct Steps {
     vars: u32,
     count: u32,
@@ -35,6 +35,31 @@ pub(crate) struct Steps {
     trail: Trail,
     named: Vec<StepId>,
     packed: Vec<PackedLit>,
+}
+
+// By hand, so that a drop is one call (docs/PROVING.md).
+impl Drop for Steps {
+    fn drop(self) {
+        let Steps {
+            vars: _,
+            count: _,
+            ids: _,
+            clauses: _,
+            trail: _,
+            named: _,
+            packed: _,
+        } = self;
+    }
+}
+
+impl Model for Steps {
+    ghost use Rattle.lrat_text.specs.Checking.{CheckState, check_state, IsCheckState};
+
+    ghost Value = { CheckState };
+
+    ghost view = { λ s. check_state s.vars s.count s.ids.items s.clauses };
+
+    ghost invariant = { λ s. IsCheckState (check_state s.vars s.count s.ids.items s.clauses) s.trail.lits s.trail.vars };
 }
 
 // Packs the literals of a clause.
@@ -51,7 +76,9 @@ fn pack_into(packed: &mut Vec<PackedLit>, clause: &[Lit]) -> Result<(), Memory>
 
 impl Steps {
     /// The clauses of a CNF.
-    pub(crate) fn new(alloc: Global, cnf: Cnf) -> Result<Steps, Memory> {
+    pub(crate) fn new(alloc: Global, cnf: Cnf) -> Result<Steps, Memory>
+        ensures { IfOk result (λ s. s ≡ check_state cnf.vars (length cnf.clauses) [] cnf.clauses) }
+    {
         let (vars, clauses) = cnf.into_parts();
         let mut trail = Trail::new(alloc);
         trail.make_room(vars as usize + 1)?;
@@ -67,20 +94,25 @@ impl Steps {
     }
 
     /// How many variables there are.
-    pub(crate) fn vars(&self) -> u32 {
+    pub(crate) fn vars(&self) -> u32
+        ensures { result ≡ self.now.vars }
+    {
         self.vars
     }
 
-    /// The last id: that of the last line that passed, or the number of the CNF's clauses.
-    pub(crate) fn last(&self) -> u32 {
-        match self.ids.last() {
-            Some(id) => *id,
-            None => self.count,
-        }
+    /// The number of the CNF's clauses.
+    pub(crate) fn count(&self) -> u32
+        ensures { result ≡ self.now.count }
+    {
+        self.count
     }
 
     /// Checks a line, and adds its clause where it passes and has a literal.
-    pub(crate) fn take(&mut self, id: u32, line: &StepText) -> Result<Taken, Memory> {
+    pub(crate) fn take(&mut self, id: u32, line: &StepText) -> Result<Taken, Memory>
+        requires last { (last : ℕ) × IsLast last self.old × (last < id) }
+        requires within { (l : Literal) → Contains line.now.literals.items l → l.var ≤ self.old.vars }
+        ensures { IfOk result (TakenAs self.old self.new (step_line id line.now.literals.items line.now.hints.items)) }
+    {
         let literals = line.literals.as_slice();
         name_hints(
             self.ids.as_slice(),
@@ -102,8 +134,9 @@ impl Steps {
             return Ok(Taken::Empty);
         }
         pack_into(&mut self.packed, literals)?;
-        self.ids.push(id)?;
+        self.ids.reserve(1)?;
         self.clauses.push(self.packed.as_slice())?;
+        let _ = self.ids.push(id);
         Ok(Taken::Passed)
     }
 }
