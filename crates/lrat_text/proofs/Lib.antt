@@ -1,2 +1,3 @@
+pub mod NamedSteps
 pub mod KeptLines
 pub mod Soundness
