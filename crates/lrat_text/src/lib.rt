@@ -10,6 +10,7 @@
 mod cnf;
 mod fault;
 mod ids;
+mod laws;
 mod lrat;
 mod lrat_line;
 mod signed;
@@ -19,5 +20,6 @@ mod verdict;
 
 pub use cnf::{Cnf, MAX_VARIABLE, read_cnf};
 pub use fault::{CnfCause, CnfFault, LratCause, LratFault};
+pub use laws::verified_is_unsatisfiable;
 pub use lrat::check_lrat;
 pub use verdict::Verdict;
