@@ -1,3 +1,4 @@
-pub mod NamedSteps
+pub mod CheckStates
 pub mod KeptLines
+pub mod NamedSteps
 pub mod Soundness

@@ -45,14 +45,21 @@ number_at (Some index) = index + 1
 abbrev pub number_of : List ℕ → ℕ → ℕ
 number_of ids id = number_at (position (λ i. i == id) ids)
 
--- the line passes the check of its hints, over the steps before it
-abbrev pub Passes : StepList → StepLine → Type 0
-Passes steps line = (n : ℕ) × Checks negation steps.clauses line.clause (map (number_of steps.ids) line.hints) (Ok n)
+-- the check takes the clause with hints that name steps by their numbers
+abbrev pub IsTaken : List (List Lit) → List Lit → List ℕ → Type 0
+IsTaken clauses clause hints = (n : ℕ) × Checks negation clauses clause hints (Ok n)
 
 -- the check rejects it
+abbrev pub IsRejected : List (List Lit) → List Lit → List ℕ → Type 0
+IsRejected clauses clause hints = (place : ℕ) × Checks negation clauses clause hints (Err place)
+
+-- the line passes the check of its hints, over the steps before it
+abbrev pub Passes : StepList → StepLine → Type 0
+Passes steps line = IsTaken steps.clauses line.clause (map (number_of steps.ids) line.hints)
+
+-- the line fails it
 abbrev pub Fails : StepList → StepLine → Type 0
-Fails steps line =
-    (place : ℕ) × Checks negation steps.clauses line.clause (map (number_of steps.ids) line.hints) (Err place)
+Fails steps line = IsRejected steps.clauses line.clause (map (number_of steps.ids) line.hints)
 
 -- over the steps so far, the lines come to this: the first that fails is told, or that one without literals has passed
 -- before, or that there is none

@@ -1,9 +1,10 @@
 //! The steps that have passed the hint check.
 
-ghost use Rattle.std.specs.Prelude.{◌≡◌, ℕ, ◌<◌, ◌≤◌, [], length, IfOk, OnOk, Contains};
-ghost use Rattle.plain_lits.specs.Checking.{IsPackable};
+ghost use Rattle.std.specs.Prelude.{◌≡◌, ℕ, ◌<◌, ◌≤◌, [], ◌∷◌, ◌++◌, length, IfOk, OnOk, OnErr, Contains};
+ghost use Rattle.std.specs.Bool.{OnTrue, OnFalse};
+ghost use Rattle.plain_lits.specs.Checking.{IsPackable, HasRoomFor, HaveRoomFor};
 ghost use Rattle.plain_lits.specs.declared.lit.Lit.{Lit as Literal};
-ghost use Rattle.lrat_text.specs.Checking.{TakenAs, IsLast, step_line, check_state};
+ghost use Rattle.lrat_text.specs.Checking.{TakenAs, IsLast, IsTaken, IsRejected, step_line, check_state};
 
 use crate::cnf::Cnf;
 use crate::ids::name_hints;
@@ -74,6 +75,48 @@ fn pack_into(packed: &mut Vec<PackedLit>, clause: &[Lit]) -> Result<(), Memory>
     Ok(())
 }
 
+// Whether the check takes a clause with these hints.
+fn passes(
+    trail: &mut Trail,
+    clauses: &Rows<PackedLit>,
+    clause: &[Lit],
+    hints: &[StepId],
+) -> bool
+    requires empty { trail.old.lits ≡ [] }
+    requires clause_room { HasRoomFor trail.old.vars clause.now }
+    requires room { HaveRoomFor trail.old.vars clauses.now }
+    ensures taken { OnTrue result (IsTaken clauses.now clause.now hints.now) }
+    ensures rejected { OnFalse result (IsRejected clauses.now clause.now hints.now) }
+    ensures lits { trail.new.lits ≡ [] }
+    ensures vars { trail.new.vars ≡ trail.old.vars }
+{
+    match check(trail, clauses, clause, hints) {
+        Ok(_) => true,
+        Err(_) => false,
+    }
+}
+
+// Adds a step to the ids and to the clauses. After `Memory` both are as before.
+fn push_step(
+    ids: &mut Vec<u32>,
+    clauses: &mut Rows<PackedLit>,
+    id: u32,
+    clause: &[Lit],
+    packed: &mut Vec<PackedLit>,
+) -> Result<(), Memory>
+    requires { IsPackable clause.now }
+    ensures id { OnOk result (ids.new.items ≡ ids.old.items ++ id ∷ []) }
+    ensures clause { OnOk result (clauses.new ≡ clauses.old ++ clause.now ∷ []) }
+    ensures ids { OnErr result (ids.new.items ≡ ids.old.items) }
+    ensures clauses { OnErr result (clauses.new ≡ clauses.old) }
+{
+    pack_into(packed, clause)?;
+    ids.reserve(1)?;
+    clauses.push(packed.as_slice())?;
+    let _ = ids.push(id);
+    Ok(())
+}
+
 impl Steps {
     /// The clauses of a CNF.
     pub(crate) fn new(alloc: Global, cnf: Cnf) -> Result<Steps, Memory>
@@ -120,23 +163,14 @@ impl Steps {
             line.hints.as_slice(),
             &mut self.named,
         )?;
-        if check(
-            &mut self.trail,
-            &self.clauses,
-            literals,
-            self.named.as_slice(),
-        )
-        .is_err()
-        {
+        let named = self.named.as_slice();
+        if !passes(&mut self.trail, &self.clauses, literals, named) {
             return Ok(Taken::Failed);
         }
         if literals.is_empty() {
             return Ok(Taken::Empty);
         }
-        pack_into(&mut self.packed, literals)?;
-        self.ids.reserve(1)?;
-        self.clauses.push(self.packed.as_slice())?;
-        let _ = self.ids.push(id);
+        push_step(&mut self.ids, &mut self.clauses, id, literals, &mut self.packed)?;
         Ok(Taken::Passed)
     }
 }
