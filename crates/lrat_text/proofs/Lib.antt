@@ -1,4 +1,5 @@
 pub mod CheckStates
 pub mod KeptLines
+pub mod LineParts
 pub mod NamedSteps
 pub mod Soundness

@@ -1,5 +1,5 @@
 -- The text of a refutation, its faults, and what the check tells of it.
-use Rattle.std.specs.Prelude.{◌≡◌, ◌⊎◌, ℕ, ◌+◌, ◌-◌, ◌<◌, ◌≤◌, List, [], ◌∷◌, ◌++◌, length, drop, Contains, codes, count_by, slice_index_or}
+use Rattle.std.specs.Prelude.{◌≡◌, ◌⊎◌, ◌↔◌, Bool, ℕ, ◌+◌, ◌-◌, ◌<◌, ◌≤◌, List, [], ◌∷◌, ◌++◌, length, drop, Contains, codes, slice_index_or}
 use Rattle.std.specs.Prelude.{Result, Ok, Err, Option, None, Some, true}
 use Rattle.std.specs.List.{AllZip}
 use Rattle.num_text.specs.Cuts.{LineText, field_texts, lines_of}
@@ -9,12 +9,13 @@ use Rattle.lrat_text.specs.declared.fault.LratCause.{LratCause}
 use Rattle.lrat_text.specs.declared.fault.LratCause.TheVariants.{BadLine, BadNumber, OutOfRange, IdOrder}
 use Rattle.lrat_text.specs.declared.fault.LratFault.{LratFault}
 use Rattle.lrat_text.specs.declared.fault.LratFault.TheVariants.{At, Memory}
+use Rattle.lrat_text.specs.declared.lrat_line.Part.{Part}
 use Rattle.lrat_text.specs.declared.verdict.Verdict.{Verdict}
 use Rattle.lrat_text.specs.Causes.{IsFirstLratCause}
 use Rattle.lrat_text.specs.Checking.{StepLine, StepList, ComesTo, steps_of}
 use Rattle.lrat_text.specs.CnfText.{Formula}
 use Rattle.lrat_text.specs.Lines.{lrat_kept}
-use Rattle.lrat_text.specs.Numbers.{IsSigned, SpellsLit, HasNoNumber, HasNoSigned, is_zero, before_zero, behind_zero}
+use Rattle.lrat_text.specs.Numbers.{IsSigned, SpellsLit, HasNoNumber, HasNoSigned, is_zero, zeros, has_zero, before_zero, behind_zero, is_filled}
 
 -- ---- a line
 
@@ -22,7 +23,7 @@ use Rattle.lrat_text.specs.Numbers.{IsSigned, SpellsLit, HasNoNumber, HasNoSigne
 pub record HasForm (fields : List (List ℕ)) : Type 0 where
   pub long : 3 ≤ length fields
   pub closed : is_zero (slice_index_or fields (length fields - 1) []) ≡ true
-  pub zeros : count_by is_zero fields ≡ 2
+  pub two : zeros fields ≡ 2
 
 -- the id's field, the literals' up to the next `0`, and the hints' up to the one behind that
 abbrev pub id_field : List (List ℕ) → List ℕ
@@ -77,6 +78,22 @@ abbrev pub HintsSay : List (List ℕ) → List ℕ → Option LratCause → Type
 HintsSay fields hints None = AllZip IsNumber fields hints
 HintsSay fields hints (Some BadNumber) = HasNoNumber fields
 HintsSay fields hints (Some _) = ⊥
+
+-- what was found of the fields up to the first `0`, or to the end; behind a `0` the others are left
+pub record ReadsPart (Say : List (List ℕ) → Option LratCause → Type 0) (fields left : List (List ℕ)) (part : Part)
+    : Type 0 where
+  pub left_is : part.closed ≡ true → left ≡ behind_zero fields
+  pub closed : part.closed ≡ has_zero fields
+  pub filled : part.filled ≡ is_filled (before_zero fields)
+  pub says : Say (before_zero fields) part.cause
+
+-- fields behind an id: those up to the first `0`, those up to the next one, and whether others are left behind that
+pub record AreParts (rest : List (List ℕ)) (literals hints : Part) (done : Bool) : Type 0 where
+  pub literals_closed : has_zero rest ≡ true
+  pub literals_filled : literals.filled ≡ is_filled (before_zero rest)
+  pub hints_closed : hints.closed ≡ has_zero (behind_zero rest)
+  pub hints_filled : hints.filled ≡ is_filled (before_zero (behind_zero rest))
+  pub done_is : hints.closed ≡ true → (done ≡ true) ↔ (behind_zero (behind_zero rest) ≡ [])
 
 -- ---- the text
 

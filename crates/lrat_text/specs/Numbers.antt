@@ -1,6 +1,5 @@
 -- Fields that are numbers, and literals as numbers with a sign.
-use Rattle.std.specs.Prelude.{◌≡◌, ℕ, ◌<◌, ◌≤◌, Bool, true, false, List, [], ◌∷◌, ◌++◌, length, Contains, codes, nat_eq}
-use Rattle.std.specs.List.{position_or_len, before_first, after_first}
+use Rattle.std.specs.Prelude.{◌≡◌, ℕ, ◌+◌, ◌≤◌, Bool, true, false, List, [], ◌∷◌, ◌++◌, length, Contains, codes, nat_eq, if◌then◌else◌}
 use Rattle.std.specs.Cmp.Lexicographic.{pointwise}
 use Rattle.num_text.specs.Number.{IsNumber}
 use Rattle.plain_lits.specs.declared.lit.Lit.{Lit}
@@ -27,15 +26,28 @@ abbrev pub is_zero : List ℕ → Bool
 is_zero field = pointwise nat_eq field (codes "0")
 
 -- some field is `0`
-abbrev pub HasZero : List (List ℕ) → Type 0
-HasZero fields = position_or_len is_zero fields < length fields
+unfoldable pub has_zero : List (List ℕ) → Bool
+has_zero [] = false
+has_zero (field ∷ fields) = if is_zero field then true else has_zero fields
+
+-- how many fields are `0`
+unfoldable pub zeros : List (List ℕ) → ℕ
+zeros [] = 0
+zeros (field ∷ fields) = if is_zero field then 1 + zeros fields else zeros fields
 
 -- the fields before the first `0`, and those behind it
-abbrev pub before_zero : List (List ℕ) → List (List ℕ)
-before_zero fields = before_first is_zero fields
+unfoldable pub before_zero : List (List ℕ) → List (List ℕ)
+before_zero [] = []
+before_zero (field ∷ fields) = if is_zero field then [] else field ∷ before_zero fields
 
-abbrev pub behind_zero : List (List ℕ) → List (List ℕ)
-behind_zero fields = after_first is_zero fields
+unfoldable pub behind_zero : List (List ℕ) → List (List ℕ)
+behind_zero [] = []
+behind_zero (field ∷ fields) = if is_zero field then fields else behind_zero fields
+
+-- there is a field
+abbrev pub is_filled : List (List ℕ) → Bool
+is_filled [] = false
+is_filled (field ∷ fields) = true
 
 -- some field is no number
 pub record HasNoNumber (fields : List (List ℕ)) : Type 0 where

@@ -1,12 +1,14 @@
 //! What a line of an LRAT text says.
 
-ghost use Rattle.std.specs.Prelude.{◌≡◌, ◌↔◌, ℕ, ◌≤◌, ◌<◌, [], ◌∷◌, ◌++◌, List, length, map, IfOk, IfErr, IsTrue, OnOk};
+ghost use Rattle.std.specs.Bool.{OnTrue, OnFalse};
+ghost use Rattle.std.specs.Prelude.{◌≡◌, ◌↔◌, ◌⊎◌, ◌≤◌, ◌<◌, ℕ, [], ◌∷◌, ◌++◌, List, map, IfOk, IfErr, IsTrue};
 ghost use Rattle.num_text.specs.Cuts.{field_texts};
 ghost use Rattle.num_text.specs.Numerals.{IsReadNumber};
-ghost use Rattle.lrat_text.specs.Numbers.{is_zero, before_zero, behind_zero, HasZero};
+ghost use Rattle.lrat_text.specs.Numbers.{is_zero};
 ghost use Rattle.lrat_text.specs.LratText.{IsStepLine, FaultsAt, LineStands};
 ghost use Rattle.lrat_text.specs.Causes.{IsFirstLratCause};
-ghost use Rattle.lrat_text.specs.LratText.{LiteralsSay, HintsSay};
+ghost use Rattle.lrat_text.specs.LratText.{LiteralsSay, HintsSay, ReadsPart, AreParts, HasForm};
+ghost use Rattle.lrat_text.specs.declared.fault.LratFault.{LratFault};
 
 use crate::fault::{LratCause, LratFault};
 use crate::signed::signed;
@@ -50,6 +52,14 @@ fn is_zero(text: &[u8]) -> bool
     text == b"0".as_slice()
 }
 
+// Whether a variable is from 1 to this number.
+fn is_within(var: usize, vars: u32) -> bool
+    ensures inside { OnTrue result ((1 ≤ var) × (var ≤ vars)) }
+    ensures outside { OnFalse result ((var ≡ 0) ⊎ (vars < var)) }
+{
+    1 <= var && var <= vars as usize
+}
+
 // Adds a literal, where nothing is wrong so far, and tells what is wrong now.
 fn add_literal(
     cause: Option<LratCause>,
@@ -68,7 +78,7 @@ fn add_literal(
     if cause.is_some() {
         return Ok(cause);
     }
-    if lit.var == 0 || lit.var > vars as usize {
+    if !is_within(lit.var, vars) {
         return Ok(Some(LratCause::OutOfRange));
     }
     literals.push(lit)?;
@@ -102,11 +112,8 @@ fn read_literals(
     vars: u32,
     literals: &mut Vec<Lit>,
 ) -> Result<Part, Memory>
-    ensures left { OnOk result (map (λ f. f.text) rest.new ≡ behind_zero (map (λ f. f.text) rest.old)) }
-    ensures closed { IfOk result (λ part. IsTrue part.closed ↔ HasZero (map (λ f. f.text) rest.old)) }
-    ensures filled { IfOk result (λ part. IsTrue part.filled ↔ (0 < length (before_zero (map (λ f. f.text) rest.old)))) }
-    ensures said { IfOk result
-        (λ part. LiteralsSay vars (before_zero (map (λ f. f.text) rest.old)) literals.new.items part.cause) }
+    ensures { IfOk result (ReadsPart (λ front. LiteralsSay vars front literals.new.items)
+        (map (λ f. f.text) rest.old) (map (λ f. f.text) rest.new)) }
 {
     literals.clear();
     let mut filled = false;
@@ -131,11 +138,8 @@ fn read_literals(
 
 // Reads the hints up to a `0`, in place of those that the list has. The fields behind it are left.
 fn read_hints(rest: &mut Fields<'_>, hints: &mut Vec<u32>) -> Result<Part, Memory>
-    ensures left { OnOk result (map (λ f. f.text) rest.new ≡ behind_zero (map (λ f. f.text) rest.old)) }
-    ensures closed { IfOk result (λ part. IsTrue part.closed ↔ HasZero (map (λ f. f.text) rest.old)) }
-    ensures filled { IfOk result (λ part. IsTrue part.filled ↔ (0 < length (before_zero (map (λ f. f.text) rest.old)))) }
-    ensures said { IfOk result
-        (λ part. HintsSay (before_zero (map (λ f. f.text) rest.old)) hints.new.items part.cause) }
+    ensures { IfOk result (ReadsPart (λ front. HintsSay front hints.new.items)
+        (map (λ f. f.text) rest.old) (map (λ f. f.text) rest.new)) }
 {
     hints.clear();
     let mut filled = false;
@@ -158,24 +162,31 @@ fn read_hints(rest: &mut Fields<'_>, hints: &mut Vec<u32>) -> Result<Part, Memor
     })
 }
 
-// Whether a line that begins so, and goes on with these parts, has two fields `0`, of which one is its last, and one
-// field more.
-fn has_form(id: &[u8], literals: Part, hints: Part, is_done: bool) -> bool {
-    if !literals.closed || !is_done {
+// Whether a line that begins so, and goes on with these parts, of which the first is closed, has two fields `0`, of
+// which one is its last, and a field more.
+fn has_form(id: &[u8], literals: Part, hints: Part, is_done: bool) -> bool
+    ensures { (rest : List (List ℕ)) → AreParts rest literals hints is_done → IsTrue result ↔ HasForm (id.now ∷ rest) }
+{
+    if !is_zero(id) {
+        if !hints.closed {
+            return false;
+        }
+        return is_done;
+    }
+    if hints.closed {
         return false;
     }
-    if is_zero(id) {
-        return literals.filled && !hints.filled && !hints.closed;
+    if hints.filled {
+        return false;
     }
-    hints.closed
+    literals.filled
 }
 
-// The first of the causes that stand on a line of the form `id literals 0 hints 0`, but for the order of ids.
-fn first_cause(id: Option<u32>, literals: Part, hints: Part) -> Option<LratCause> {
-    if id.is_none() || hints.cause.is_some() {
-        return Some(LratCause::BadNumber);
-    }
-    literals.cause
+// The fault of this cause at a line.
+fn fault(line: usize, cause: LratCause) -> LratFault
+    ensures { result ≡ LratFault.At line cause }
+{
+    LratFault::At { line, cause }
 }
 
 /// The id of a line, whose literals and hints are put in place of those that `into` has. Variables are from 1 to
@@ -191,25 +202,30 @@ pub(crate) fn read_step(
     ensures fault { IfErr result
         (FaultsAt line.now.number (IsFirstLratCause (LineStands vars last (field_texts line.now.text.now)))) }
 {
-    let fault = |cause: LratCause| LratFault::At {
-        line: line.number,
-        cause,
-    };
     let mut rest = fields(line);
     let Some(id) = rest.next_number() else {
-        return Err(fault(LratCause::BadLine));
+        return Err(fault(line.number, LratCause::BadLine));
     };
     let literals = read_literals(&mut rest, vars, &mut into.literals)?;
+    if !literals.closed {
+        return Err(fault(line.number, LratCause::BadLine));
+    }
     let hints = read_hints(&mut rest, &mut into.hints)?;
     let is_done = rest.next().is_none();
     if !has_form(id.text, literals, hints, is_done) {
-        return Err(fault(LratCause::BadLine));
+        return Err(fault(line.number, LratCause::BadLine));
     }
-    if let Some(cause) = first_cause(id.number, literals, hints) {
-        return Err(fault(cause));
+    let Some(number) = id.number else {
+        return Err(fault(line.number, LratCause::BadNumber));
+    };
+    if hints.cause.is_some() {
+        return Err(fault(line.number, LratCause::BadNumber));
     }
-    match id.number {
-        Some(number) if number > last => Ok(number),
-        _ => Err(fault(LratCause::IdOrder)),
+    if let Some(cause) = literals.cause {
+        return Err(fault(line.number, cause));
     }
+    if number <= last {
+        return Err(fault(line.number, LratCause::IdOrder));
+    }
+    Ok(number)
 }
