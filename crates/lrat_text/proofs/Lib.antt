@@ -1,5 +1,7 @@
 pub mod CheckStates
 pub mod KeptLines
+pub mod LineCauses
+pub mod LineForms
 pub mod LineParts
 pub mod NamedSteps
 pub mod Soundness

@@ -247,7 +247,7 @@ literal_kept vars front literals (Some IdOrder) text l has spelled says = absurd
 abbrev pub last_field : List (List ℕ) → List ℕ
 last_field fields = get_or fields (length fields - 1) []
 
-last_behind : (front : List (List ℕ)) (x : List ℕ) (more : List (List ℕ))
+pub last_behind : (front : List (List ℕ)) (x : List ℕ) (more : List (List ℕ))
     → last_field (front ++ x ∷ more) ≡ last_field (x ∷ more)
 last_behind front x more =
     let long = length-append front (x ∷ more) in
@@ -304,7 +304,7 @@ no_zero (f ∷ fs) h = elim (cases_Bool (is_zero f)) [
 ]
 
 -- the last of fields that are counted as no zero is none
-last_no_zero : (f : List ℕ) (fs : List (List ℕ)) → zeros (f ∷ fs) ≡ 0 → is_zero (last_field (f ∷ fs)) ≡ false
+pub last_no_zero : (f : List ℕ) (fs : List (List ℕ)) → zeros (f ∷ fs) ≡ 0 → is_zero (last_field (f ∷ fs)) ≡ false
 last_no_zero f [] h = elim (cases_Bool (is_zero f)) [
   | inl e ↦ let one = zeros-here f [] e in absurd (omega arith)
   | inr e ↦ e

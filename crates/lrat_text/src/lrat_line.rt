@@ -168,10 +168,10 @@ fn has_form(id: &[u8], literals: Part, hints: Part, is_done: bool) -> bool
     ensures { (rest : List (List ℕ)) → AreParts rest literals hints is_done → IsTrue result ↔ HasForm (id.now ∷ rest) }
 {
     if !is_zero(id) {
-        if !hints.closed {
-            return false;
+        if hints.closed {
+            return is_done;
         }
-        return is_done;
+        return false;
     }
     if hints.closed {
         return false;
