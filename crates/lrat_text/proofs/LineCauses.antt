@@ -1,16 +1,19 @@
 -- The cause that is told of a line, and what a line without one says.
-use Rattle.std.proofs.Common.{◌≡◌, ◌⊎◌, ℕ, ◌+◌, ◌<◌, ◌≤◌, Bool, true, false, List, [], ◌∷◌, ◌++◌, length, drop, get_or, inl, inr, ap, sym, subst, refl, ◌∙◌, arith, ⊎_elim}
-use Rattle.std.specs.Prelude.{Contains, Option, Some, None, IfSome, IfNone, is_some}
+use Rattle.std.proofs.Common.{◌≡◌, ◌⊎◌, ℕ, ◌+◌, ◌<◌, ◌≤◌, Bool, true, false, List, [], ◌∷◌, ◌++◌, length, map, drop, get_or, inl, inr, ap, sym, subst, refl, ◌∙◌, arith, ⊎_elim}
+use Rattle.std.specs.Prelude.{Contains, Option, Some, None, IfSome, IfNone, is_some, ◌↔◌}
 use Rattle.std.specs.List.{AllZip}
+use Rattle.num_text.specs.Cuts.{FieldText}
 use Rattle.num_text.specs.Number.{IsNumber, digits_value}
-use Rattle.num_text.specs.Numerals.{IsReadNumber}
+use Rattle.num_text.specs.Numerals.{IsReadNumber, TakesField}
 use Rattle.plain_lits.specs.declared.lit.Lit.{Lit}
 use Rattle.lrat_text.specs.declared.fault.LratCause.{LratCause}
 use Rattle.lrat_text.specs.declared.fault.LratCause.TheVariants.{BadLine, BadNumber, OutOfRange, IdOrder}
 use Rattle.lrat_text.specs.Causes.{IsFirstLratCause, lrat_rank}
-use Rattle.lrat_text.specs.Numbers.{before_zero, behind_zero, IsSigned, SpellsLit, HasNoNumber, HasNoSigned, sign_text}
-use Rattle.lrat_text.specs.LratText.{HasForm, HasOutsider, HintsSay, IsStepLine, LineStands, LiteralsSay}
-use Rattle.lrat_text.proofs.LineParts.{all_signed, zip_partner}
+use Rattle.lrat_text.specs.Numbers.{has_zero, is_filled, before_zero, behind_zero, IsSigned, SpellsLit, HasNoNumber, HasNoSigned, sign_text}
+use Rattle.lrat_text.specs.LratText.{AreParts, HasForm, HasOutsider, HintsSay, IsStepLine, LineStands, LiteralsSay, ReadsPart}
+use Rattle.lrat_text.specs.declared.lrat_line.Part.{Part}
+use Rattle.lrat_text.proofs.LineForms.{form_open}
+use Rattle.lrat_text.proofs.LineParts.{all_signed, zip_partner, taken}
 
 -- ---- one reading of a literal
 
@@ -70,6 +73,40 @@ pub record CutLine (vars : ℕ) (fields : List (List ℕ)) (id : List ℕ) (numb
   pub number_is : IsReadNumber id number
   pub literals_say : LiteralsSay vars (before_zero rest) literals literal_cause
   pub hints_say : HintsSay (before_zero (behind_zero rest)) hints hint_cause
+
+pub cut_from : (vars : ℕ) (fields : List (List ℕ)) (before after : List FieldText) (id : List ℕ) (number : Option ℕ)
+    (literals : List Lit) (hints : List ℕ) (left more : List (List ℕ)) (part next : Part)
+    → map (λ f. f.text) before ≡ fields → TakesField before id after → IsReadNumber id number
+    → ReadsPart (λ front. LiteralsSay vars front literals) (map (λ f. f.text) after) left part → part.closed ≡ true
+    → ReadsPart (λ front. HintsSay front hints) left more next
+    → CutLine vars fields id number (map (λ f. f.text) after) literals part.cause hints next.cause
+cut_from vars fields before after id number literals hints left more part next texts takes is first closed second =
+    record {
+      fields_are = sym texts ∙ taken before after id takes;
+      number_is = is;
+      literals_say = first.says;
+      hints_say = subst (λ fs. HintsSay (before_zero fs) hints next.cause) (first.left_is closed) second.says;
+    }
+
+pub parts_from : (vars : ℕ) (rest left more : List (List ℕ)) (literals : List Lit) (hints : List ℕ) (part next : Part)
+    (done : Bool) → ReadsPart (λ front. LiteralsSay vars front literals) rest left part → part.closed ≡ true
+    → ReadsPart (λ front. HintsSay front hints) left more next → (done ≡ true) ↔ (more ≡ [])
+    → AreParts rest part next done
+parts_from vars rest left more literals hints part next done first closed second end =
+    let at : left ≡ behind_zero rest = first.left_is closed in
+    record {
+      literals_closed = sym first.closed ∙ closed;
+      literals_filled = first.filled;
+      hints_closed = second.closed ∙ ap has_zero at;
+      hints_filled = second.filled ∙ ap (λ fs. is_filled (before_zero fs)) at;
+      done_is = λ e.
+          let behind : more ≡ behind_zero (behind_zero rest) = second.left_is e ∙ ap behind_zero at in
+          (λ d. sym behind ∙ end.0 d, λ d. end.1 (behind ∙ d));
+    }
+
+-- a line of no field
+pub no_fields : (fields : List (List ℕ)) → fields ≡ [] → HasForm fields → ⊥
+no_fields fields e h = let long = h.long in omega (arith, long, ap length e)
 
 pub bad_line_told : (vars last : ℕ) (fields : List (List ℕ)) → (HasForm fields → ⊥)
     → IsFirstLratCause (LineStands vars last fields) BadLine
@@ -209,3 +246,13 @@ step_read vars last fields id number rest literals literal_cause hints hint_caus
       hints_are = hints_good _ hints hint_cause h.hints_say none;
       above = above;
     })
+
+-- no zero closes the literals
+pub open_told : (vars last : ℕ) (fields : List (List ℕ)) (before after : List FieldText) (id : List ℕ)
+    (literals : List Lit) (left : List (List ℕ)) (part : Part) → map (λ f. f.text) before ≡ fields
+    → TakesField before id after → ReadsPart (λ front. LiteralsSay vars front literals) (map (λ f. f.text) after) left part
+    → part.closed ≡ false → IsFirstLratCause (LineStands vars last fields) BadLine
+open_told vars last fields before after id literals left part texts takes first open_end =
+    let cut : fields ≡ id ∷ map (λ f. f.text) after = sym texts ∙ taken before after id takes in
+    bad_line_told vars last fields
+    (λ h. form_open id (map (λ f. f.text) after) (sym first.closed ∙ open_end) (subst HasForm cut h))

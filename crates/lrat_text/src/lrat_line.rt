@@ -162,6 +162,13 @@ fn read_hints(rest: &mut Fields<'_>, hints: &mut Vec<u32>) -> Result<Part, Memor
     })
 }
 
+// Whether no field is left.
+fn is_done(mut rest: Fields<'_>) -> bool
+    ensures { IsTrue result ↔ (map (λ f. f.text) rest.entry ≡ []) }
+{
+    rest.next().is_none()
+}
+
 // Whether a line that begins so, and goes on with these parts, of which the first is closed, has two fields `0`, of
 // which one is its last, and a field more.
 fn has_form(id: &[u8], literals: Part, hints: Part, is_done: bool) -> bool
@@ -207,12 +214,12 @@ pub(crate) fn read_step(
         return Err(fault(line.number, LratCause::BadLine));
     };
     let literals = read_literals(&mut rest, vars, &mut into.literals)?;
-    if !literals.closed {
+    let is_closed = literals.closed;
+    if !is_closed {
         return Err(fault(line.number, LratCause::BadLine));
     }
     let hints = read_hints(&mut rest, &mut into.hints)?;
-    let is_done = rest.next().is_none();
-    if !has_form(id.text, literals, hints, is_done) {
+    if !has_form(id.text, literals, hints, is_done(rest)) {
         return Err(fault(line.number, LratCause::BadLine));
     }
     let Some(number) = id.number else {
