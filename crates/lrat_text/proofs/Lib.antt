@@ -1,4 +1,5 @@
 pub mod CheckStates
+pub mod Courses
 pub mod KeptLines
 pub mod LineCauses
 pub mod LineForms

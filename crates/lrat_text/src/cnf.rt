@@ -6,7 +6,7 @@ ghost use Rattle.num_text.specs.Numerals.{IsReadNumber};
 ghost use Rattle.num_text.specs.declared.limit.TheConstants.{MAX_INPUT};
 ghost use Rattle.lrat_text.specs.Lines.{cnf_kept};
 ghost use Rattle.lrat_text.specs.CnfText.{IsHeader, IsCnfRead, BeginWith, IsBadHeader, HeaderStands, adds, cut, LineSays};
-ghost use Rattle.lrat_text.specs.CnfText.{ReadsFrom, no_cut};
+ghost use Rattle.lrat_text.specs.CnfText.{IsFormula, ReadsFrom, no_cut};
 ghost use Rattle.lrat_text.specs.Causes.{IsFirstCnfCause};
 
 use crate::fault::{CnfCause, CnfFault};

@@ -38,6 +38,7 @@ fn is_no_step(line: &Line<'_>) -> bool
 pub(crate) fn next_cnf_line<'a>(lines: &mut Lines<'a>) -> Option<Line<'a>>
     ensures some { IfSome result (λ line. cnf_kept lines.old ≡ line_text line ∷ cnf_kept lines.new) }
     ensures none { IfNone result (cnf_kept lines.old ≡ []) }
+    ensures end { IfNone result (lines.new ≡ []) }
 {
     while let Some(line) = lines.next() {
         if !is_comment(&line) {
@@ -51,6 +52,7 @@ pub(crate) fn next_cnf_line<'a>(lines: &mut Lines<'a>) -> Option<Line<'a>>
 pub(crate) fn next_lrat_line<'a>(lines: &mut Lines<'a>) -> Option<Line<'a>>
     ensures some { IfSome result (λ line. lrat_kept lines.old ≡ line_text line ∷ lrat_kept lines.new) }
     ensures none { IfNone result (lrat_kept lines.old ≡ []) }
+    ensures end { IfNone result (lines.new ≡ []) }
 {
     while let Some(line) = lines.next() {
         if !is_no_step(&line) {
