@@ -7,6 +7,8 @@ use Rattle.std.proofs.lemmas.List.{get_or_append_left, get_or-append-add}
 use Rattle.std.proofs.lemmas.List.Elements.{Contains-get_or, Contains-push_cases}
 use Rattle.plain_lits.specs.declared.lit.Lit.{Lit}
 use Rattle.plain_lits.specs.Checking.{HasRoomFor, HaveRoomFor, IsPackable}
+use Rattle.lists.proofs.Membership.{Contains-nil}
+use Rattle.lrat_text.specs.CnfText.{Formula, IsFormula}
 use Rattle.lrat_text.specs.Checking.{AreIds, CheckState, check_state, IsLast, IsCheckState}
 
 -- a literal over the CNF's variables has room
@@ -96,3 +98,23 @@ added_state s view truths truths' room room' id clause ids' clauses' h viewed cl
       vars_room = let lt = h.vars_room in omega (arith, lt, same);
       few = h.few;
     })
+
+-- the state before the first line
+pub new_state : (f : Formula) (vars count room : ℕ) (ids : List ℕ) (clauses : List (List Lit)) (truths : List Lit)
+    → IsFormula f → vars ≡ f.vars → clauses ≡ f.clauses → count ≡ length clauses → ids ≡ [] → truths ≡ [] → vars < room
+    → IsCheckState (check_state vars count ids clauses) truths room
+new_state f vars count room ids clauses truths h same same_clauses counted none clear more = rw none (record {
+  ids = record {
+    rise = λ k lt. absurd (omega arith);
+    above = λ id c. absurd (Contains-nil id c);
+    fit = λ id c. absurd (Contains-nil id c);
+  };
+  long = omega (arith, counted);
+  clear = clear;
+  clauses_room = λ clause c l m.
+      let in_f = subst (λ cs. Contains cs clause) same_clauses c in
+      let le = (h.clauses clause l in_f m).within in
+      omega (arith, le, same, more);
+  vars_room = more;
+  few = let le = h.few in omega (arith, le, same);
+})

@@ -50,5 +50,5 @@ returns-in-Empty-clause-judged c =
 
 pub returns-clause-judged : goal.returns-clause-judged
 returns-clause-judged c =
-    judged_end _ _ _ _ _ _ _ c.loop-line.invariant.goes c.in_default.ensures.none
+    judged_end _ _ _ _ _ _ _ _ c.loop-line.invariant.goes c.in_default.ensures.none
     (ap lrat_kept c.in_default.ensures.end ∙ lrat_kept-nil)
