@@ -1,4 +1,6 @@
 pub mod CheckStates
+pub mod CnfLines
+pub mod CnfWithin
 pub mod Courses
 pub mod KeptLines
 pub mod LineCauses

@@ -197,7 +197,7 @@ pub literal_bad : (front : List (List ℕ)) (text : List ℕ) → ((l : Lit) →
 literal_bad front text none = record { field = text; listed = among front text []; none = none }
 
 -- one that is a number, behind others that all are
-signed_more : (front : List (List ℕ)) (text : List ℕ) (l : Lit) → IsSigned text l → (HasNoSigned front → ⊥)
+pub signed_more : (front : List (List ℕ)) (text : List ℕ) (l : Lit) → IsSigned text l → (HasNoSigned front → ⊥)
     → HasNoSigned (front ++ text ∷ []) → ⊥
 signed_more front text l spelled all bad =
     ⊎_elim (λ old. all (record { field = bad.field; listed = old; none = bad.none }))
