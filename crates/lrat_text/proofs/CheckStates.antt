@@ -35,14 +35,14 @@ push_rises ids id up above k within =
     let here = get_or_append_left ids (id ∷ []) 0 k (omega arith) in
     elim (cases_lt (k + 1) (length ids)) [
       | inl low ↦
-      let next = get_or_append_left ids (id ∷ []) 0 (k + 1) low in
-      let less = up k low in
-      omega (arith, here, next, less)
+          let next = get_or_append_left ids (id ∷ []) 0 (k + 1) low in
+          let less = up k low in
+          omega (arith, here, next, less)
       | inr high ↦
-      let last : get_or (ids ++ id ∷ []) (k + 1) 0 ≡ id
-      = ap (λ n. get_or (ids ++ id ∷ []) n 0) (omega arith) ∙ get_or-append-add ids (id ∷ []) 0 0 in
-      let less = above (get_or ids k 0) (Contains-get_or ids k 0 (omega arith)) in
-      omega (arith, here, last, less)
+          let last : get_or (ids ++ id ∷ []) (k + 1) 0 ≡ id
+          = ap (λ n. get_or (ids ++ id ∷ []) n 0) (omega arith) ∙ get_or-append-add ids (id ∷ []) 0 0 in
+          let less = above (get_or ids k 0) (Contains-get_or ids k 0 (omega arith)) in
+          omega (arith, here, last, less)
     ]
 
 -- ids with one more

@@ -96,12 +96,12 @@ line_bad vars fields left before after over field rest to cut none =
       first = least;
     }
   where
-  least : (other : CnfCause) → LineStands vars fields other → 3 ≤ cnf_rank other
-  least NoHeader s = absurd s
-  least BadHeader s = absurd s
-  least BadNumber s = omega arith
-  least OutOfRange s = omega arith
-  least ClauseCount s = omega arith
+    least : (other : CnfCause) → LineStands vars fields other → 3 ≤ cnf_rank other
+    least NoHeader s = absurd s
+    least BadHeader s = absurd s
+    least BadNumber s = omega arith
+    least OutOfRange s = omega arith
+    least ClauseCount s = omega arith
 
 all_front : (vars : ℕ) (fields left : List (List ℕ)) (before after : Cut) (over : Bool)
     → (to : LineTo vars fields left before after over) → left ≡ [] → to.front ≡ fields
@@ -126,12 +126,12 @@ line_outside vars fields left before after over to end outside =
       first = λ other s. least (subst (λ fs. HasNoSigned fs → ⊥) whole at.says.0) other s;
     }
   where
-  least : (HasNoSigned fields → ⊥) → (other : CnfCause) → LineStands vars fields other → 4 ≤ cnf_rank other
-  least none NoHeader s = absurd s
-  least none BadHeader s = absurd s
-  least none BadNumber s = absurd (none s)
-  least none OutOfRange s = omega arith
-  least none ClauseCount s = omega arith
+    least : (HasNoSigned fields → ⊥) → (other : CnfCause) → LineStands vars fields other → 4 ≤ cnf_rank other
+    least none NoHeader s = absurd s
+    least none BadHeader s = absurd s
+    least none BadNumber s = absurd (none s)
+    least none OutOfRange s = omega arith
+    least none ClauseCount s = omega arith
 
 -- the next line leads on
 pub reads_more : (end vars count : ℕ) (before after : Cut) (old left : List LineText) (line : LineText)

@@ -171,6 +171,6 @@ checked_sound f bytes verdict checked e =
     let same : verdict ≡ Verified = ap (λ r. verdict_of r) e in
     verified_has_no_model f.clauses checked.0 (subst (ComesTo (steps_of f.clauses) checked.0) same checked.2)
   where
-  verdict_of : Result Verdict LratFault → Verdict
-  verdict_of (Ok v) = v
-  verdict_of (Err fault) = NoEmptyClause
+    verdict_of : Result Verdict LratFault → Verdict
+    verdict_of (Ok v) = v
+    verdict_of (Err fault) = NoEmptyClause

@@ -112,43 +112,43 @@ pub bad_line_told : (vars last : ℕ) (fields : List (List ℕ)) → (HasForm fi
     → IsFirstLratCause (LineStands vars last fields) BadLine
 bad_line_told vars last fields bad = record { stands = bad; first = least }
   where
-  least : (other : LratCause) → LineStands vars last fields other → 1 ≤ lrat_rank other
-  least BadLine s = omega arith
-  least BadNumber s = omega arith
-  least OutOfRange s = omega arith
-  least IdOrder s = omega arith
+    least : (other : LratCause) → LineStands vars last fields other → 1 ≤ lrat_rank other
+    least BadLine s = omega arith
+    least BadNumber s = omega arith
+    least OutOfRange s = omega arith
+    least IdOrder s = omega arith
 
 bad_number_told : (vars last : ℕ) (fields : List (List ℕ)) → HasForm fields → LineStands vars last fields BadNumber
     → IsFirstLratCause (LineStands vars last fields) BadNumber
 bad_number_told vars last fields form bad = record { stands = bad; first = least }
   where
-  least : (other : LratCause) → LineStands vars last fields other → 2 ≤ lrat_rank other
-  least BadLine s = absurd (s form)
-  least BadNumber s = omega arith
-  least OutOfRange s = omega arith
-  least IdOrder s = omega arith
+    least : (other : LratCause) → LineStands vars last fields other → 2 ≤ lrat_rank other
+    least BadLine s = absurd (s form)
+    least BadNumber s = omega arith
+    least OutOfRange s = omega arith
+    least IdOrder s = omega arith
 
 outside_told : (vars last : ℕ) (fields : List (List ℕ)) → HasForm fields
     → (LineStands vars last fields BadNumber → ⊥) → LineStands vars last fields OutOfRange
     → IsFirstLratCause (LineStands vars last fields) OutOfRange
 outside_told vars last fields form numbers out = record { stands = out; first = least }
   where
-  least : (other : LratCause) → LineStands vars last fields other → 3 ≤ lrat_rank other
-  least BadLine s = absurd (s form)
-  least BadNumber s = absurd (numbers s)
-  least OutOfRange s = omega arith
-  least IdOrder s = omega arith
+    least : (other : LratCause) → LineStands vars last fields other → 3 ≤ lrat_rank other
+    least BadLine s = absurd (s form)
+    least BadNumber s = absurd (numbers s)
+    least OutOfRange s = omega arith
+    least IdOrder s = omega arith
 
 order_told : (vars last : ℕ) (fields : List (List ℕ)) → HasForm fields
     → (LineStands vars last fields BadNumber → ⊥) → (LineStands vars last fields OutOfRange → ⊥)
     → LineStands vars last fields IdOrder → IsFirstLratCause (LineStands vars last fields) IdOrder
 order_told vars last fields form numbers within out = record { stands = out; first = least }
   where
-  least : (other : LratCause) → LineStands vars last fields other → 4 ≤ lrat_rank other
-  least BadLine s = absurd (s form)
-  least BadNumber s = absurd (numbers s)
-  least OutOfRange s = absurd (within s)
-  least IdOrder s = omega arith
+    least : (other : LratCause) → LineStands vars last fields other → 4 ≤ lrat_rank other
+    least BadLine s = absurd (s form)
+    least BadNumber s = absurd (numbers s)
+    least OutOfRange s = absurd (within s)
+    least IdOrder s = omega arith
 
 number_none : (id : List ℕ) (number : Option ℕ) → IsReadNumber id number → number ≡ None → (n : ℕ) → IsNumber id n → ⊥
 number_none id None h e n is = h.none n is

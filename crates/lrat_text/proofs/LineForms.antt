@@ -59,8 +59,7 @@ form_done id rest plain closed again =
     (next.mark ∷ behind_zero (behind_zero rest)))) in
     let front : List (List ℕ) = id ∷ (before_zero rest ++ cut.mark ∷ before_zero (behind_zero rest)) in
     let last : last_field (id ∷ rest) ≡ last_field (next.mark ∷ behind_zero (behind_zero rest))
-    = ap (λ r. last_field (id ∷ r)) whole ∙ last_behind front next.mark (behind_zero (behind_zero rest)) in
-    (
+    = ap (λ r. last_field (id ∷ r)) whole ∙ last_behind front next.mark (behind_zero (behind_zero rest)) in (
       λ e.
           let none = ap zeros e in
           let nil = zeros-nil in
@@ -77,11 +76,11 @@ form_done id rest plain closed again =
           (ap is_zero (sym last) ∙ h.closed),
     )
   where
-  ended : (mark : List ℕ) (behind : List (List ℕ)) → zeros behind ≡ 0
-      → is_zero (last_field (mark ∷ behind)) ≡ true → behind ≡ []
-  ended mark [] none closed = refl
-  ended mark (x ∷ xs) none closed = absurd (false≢true (sym (last_no_zero x xs none)
-      ∙ (ap is_zero (sym (last_behind (mark ∷ []) x xs)) ∙ closed)))
+    ended : (mark : List ℕ) (behind : List (List ℕ)) → zeros behind ≡ 0
+        → is_zero (last_field (mark ∷ behind)) ≡ true → behind ≡ []
+    ended mark [] none closed = refl
+    ended mark (x ∷ xs) none closed = absurd (false≢true (sym (last_no_zero x xs none)
+        ∙ (ap is_zero (sym (last_behind (mark ∷ []) x xs)) ∙ closed)))
 
 -- no zero behind the id
 pub form_open : (id : List ℕ) (rest : List (List ℕ)) → has_zero rest ≡ false → HasForm (id ∷ rest) → ⊥
@@ -91,11 +90,11 @@ form_open id rest none h =
     let bound = zeros_bound id rest in
     omega (arith, two, zero_count, bound)
   where
-  zeros_bound : (f : List ℕ) (fs : List (List ℕ)) → zeros (f ∷ fs) ≤ 1 + zeros fs
-  zeros_bound f fs = elim (cases_Bool (is_zero f)) [
-    | inl e ↦ let a = zeros-here f fs e in omega (arith, a)
-    | inr e ↦ let a = zeros-later f fs e in omega (arith, a)
-  ]
+    zeros_bound : (f : List ℕ) (fs : List (List ℕ)) → zeros (f ∷ fs) ≤ 1 + zeros fs
+    zeros_bound f fs = elim (cases_Bool (is_zero f)) [
+      | inl e ↦ let a = zeros-here f fs e in omega (arith, a)
+      | inr e ↦ let a = zeros-later f fs e in omega (arith, a)
+    ]
 
 -- ---- an id that is a zero
 
@@ -136,8 +135,7 @@ form_zero id rest here closed none empty =
     let behind = no_zero (behind_zero rest) none in
     let nothing : behind_zero rest ≡ [] = sym behind.1 ∙ empty_of (before_zero (behind_zero rest)) empty in
     let long = length_cut rest cut in
-    let no_more = ap length nothing in
-    (
+    let no_more = ap length nothing in (
       λ filled.
           let some = filled_long (before_zero rest) filled in
           let a = zeros-here id rest here in

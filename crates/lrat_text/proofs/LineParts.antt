@@ -266,26 +266,26 @@ pub cut_at_zero : (fields : List (List ℕ)) → has_zero fields ≡ true → Cu
 cut_at_zero [] h = absurd (false≢true (sym has_zero-nil ∙ h))
 cut_at_zero (f ∷ fs) h = elim (cases_Bool (is_zero f)) [
   | inl e ↦
-  let before = before_zero-here f fs e in
-  let behind = behind_zero-here f fs e in
-  record {
-    mark = f;
-    is = e;
-    cut = sym (ap (λ b. b ++ f ∷ behind_zero (f ∷ fs)) before ∙ ap (λ b. f ∷ b) behind);
-    counted = zeros-here f fs e ∙ ap (λ b. 1 + zeros b) (sym behind);
-  }
+      let before = before_zero-here f fs e in
+      let behind = behind_zero-here f fs e in
+      record {
+        mark = f;
+        is = e;
+        cut = sym (ap (λ b. b ++ f ∷ behind_zero (f ∷ fs)) before ∙ ap (λ b. f ∷ b) behind);
+        counted = zeros-here f fs e ∙ ap (λ b. 1 + zeros b) (sym behind);
+      }
   | inr e ↦
-  let later = cut_at_zero fs (sym (has_zero-later f fs e) ∙ h) in
-  let before = before_zero-later f fs e in
-  let behind = behind_zero-later f fs e in
-  record {
-    mark = later.mark;
-    is = later.is;
-    cut = ap (λ b. f ∷ b) later.cut
-        ∙ sym (ap (λ b. b ++ later.mark ∷ behind_zero (f ∷ fs)) before
-        ∙ ap (λ b. f ∷ (before_zero fs ++ later.mark ∷ b)) behind);
-    counted = zeros-later f fs e ∙ (later.counted ∙ ap (λ b. 1 + zeros b) (sym behind));
-  }
+      let later = cut_at_zero fs (sym (has_zero-later f fs e) ∙ h) in
+      let before = before_zero-later f fs e in
+      let behind = behind_zero-later f fs e in
+      record {
+        mark = later.mark;
+        is = later.is;
+        cut = ap (λ b. f ∷ b) later.cut
+            ∙ sym (ap (λ b. b ++ later.mark ∷ behind_zero (f ∷ fs)) before
+            ∙ ap (λ b. f ∷ (before_zero fs ++ later.mark ∷ b)) behind);
+        counted = zeros-later f fs e ∙ (later.counted ∙ ap (λ b. 1 + zeros b) (sym behind));
+      }
 ]
 
 -- where there is none, none is counted, and no field stands behind one
@@ -295,12 +295,11 @@ no_zero [] h = (zeros-nil, before_zero-nil, behind_zero-nil)
 no_zero (f ∷ fs) h = elim (cases_Bool (is_zero f)) [
   | inl e ↦ absurd (false≢true (sym h ∙ has_zero-here f fs e))
   | inr e ↦
-  let later = no_zero fs (sym (has_zero-later f fs e) ∙ h) in
-  (
-    zeros-later f fs e ∙ later.0,
-    before_zero-later f fs e ∙ ap (λ b. f ∷ b) later.1,
-    behind_zero-later f fs e ∙ later.2,
-  )
+      let later = no_zero fs (sym (has_zero-later f fs e) ∙ h) in (
+        zeros-later f fs e ∙ later.0,
+        before_zero-later f fs e ∙ ap (λ b. f ∷ b) later.1,
+        behind_zero-later f fs e ∙ later.2,
+      )
 ]
 
 -- the last of fields that are counted as no zero is none

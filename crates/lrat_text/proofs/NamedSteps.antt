@@ -67,35 +67,36 @@ all_ids-rise count ids h k within =
     let long = length-all_ids count ids in
     elim (cases_lt (k + 1) count) [
       | inl low ↦
-      let a = all_ids-low count ids k (omega arith) in
-      let b = all_ids-low count ids (k + 1) low in
-      omega (arith, a, b)
+          let a = all_ids-low count ids k (omega arith) in
+          let b = all_ids-low count ids (k + 1) low in
+          omega (arith, a, b)
       | inr high ↦ above k within high long
     ]
   where
-  later : (j k : ℕ) → k + 1 < length (all_ids count ids) → k ≡ count + j
-      → length (all_ids count ids) ≡ count + length ids
-      → get_or (all_ids count ids) k 0 < get_or (all_ids count ids) (k + 1) 0
-  later j k within at long =
-    let a : get_or (all_ids count ids) k 0 ≡ get_or ids j 0
-    = ap (λ n. get_or (all_ids count ids) n 0) at ∙ all_ids-high count ids j in
-    let b : get_or (all_ids count ids) (k + 1) 0 ≡ get_or ids (j + 1) 0
-    = ap (λ n. get_or (all_ids count ids) n 0) (omega arith) ∙ all_ids-high count ids (j + 1) in
-    let up = h.rise j (omega arith) in
-    omega (arith, a, b, up)
-  above : (k : ℕ) → k + 1 < length (all_ids count ids) → count ≤ k + 1
-      → length (all_ids count ids) ≡ count + length ids
-      → get_or (all_ids count ids) k 0 < get_or (all_ids count ids) (k + 1) 0
-  above k within high long = elim (cases_lt k count) [
-    | inl here ↦
-    let a = all_ids-low count ids k here in
-    let b = all_ids-high count ids 0 in
-    let same : get_or (all_ids count ids) (k + 1) 0 ≡ get_or (all_ids count ids) (count + 0) 0
-    = ap (λ n. get_or (all_ids count ids) n 0) (omega arith) in
-    let up = ids_high count ids h 0 (omega arith) in
-    omega (arith, a, b, same, up)
-    | inr behind ↦ later (k - count) k within (omega arith) long
-  ]
+    later : (j k : ℕ) → k + 1 < length (all_ids count ids) → k ≡ count + j
+        → length (all_ids count ids) ≡ count + length ids
+        → get_or (all_ids count ids) k 0 < get_or (all_ids count ids) (k + 1) 0
+    later j k within at long =
+        let a : get_or (all_ids count ids) k 0 ≡ get_or ids j 0
+        = ap (λ n. get_or (all_ids count ids) n 0) at ∙ all_ids-high count ids j in
+        let b : get_or (all_ids count ids) (k + 1) 0 ≡ get_or ids (j + 1) 0
+        = ap (λ n. get_or (all_ids count ids) n 0) (omega arith) ∙ all_ids-high count ids (j + 1) in
+        let up = h.rise j (omega arith) in
+        omega (arith, a, b, up)
+
+    above : (k : ℕ) → k + 1 < length (all_ids count ids) → count ≤ k + 1
+        → length (all_ids count ids) ≡ count + length ids
+        → get_or (all_ids count ids) k 0 < get_or (all_ids count ids) (k + 1) 0
+    above k within high long = elim (cases_lt k count) [
+      | inl here ↦
+          let a = all_ids-low count ids k here in
+          let b = all_ids-high count ids 0 in
+          let same : get_or (all_ids count ids) (k + 1) 0 ≡ get_or (all_ids count ids) (count + 0) 0
+          = ap (λ n. get_or (all_ids count ids) n 0) (omega arith) in
+          let up = ids_high count ids h 0 (omega arith) in
+          omega (arith, a, b, same, up)
+      | inr behind ↦ later (k - count) k within (omega arith) long
+    ]
 
 -- the number of a clause of the CNF
 pub number_of-low : (count : ℕ) (ids : List ℕ) (id : ℕ) → AreIds count ids → 0 < id → id ≤ count
@@ -124,14 +125,14 @@ number_of-nothing count ids id h not_low not_line = number_of_none (all_ids coun
       | inr high ↦ line (k - count) k lt (omega arith) e
     ])
   where
-  line : (j k : ℕ) → k < length (all_ids count ids) → k ≡ count + j → get_or (all_ids count ids) k 0 ≡ id → ⊥
-  line j k lt at e =
-    let long = length-all_ids count ids in
-    let same : get_or (all_ids count ids) k 0 ≡ get_or ids j 0
-    = ap (λ n. get_or (all_ids count ids) n 0) at ∙ all_ids-high count ids j in
-    let within : j < length ids = omega arith in
-    let here : get_or ids j 0 ≡ id = omega (arith, same, e) in
-    not_line (j, within, get_or_default ids j id 0 within ∙ here)
+    line : (j k : ℕ) → k < length (all_ids count ids) → k ≡ count + j → get_or (all_ids count ids) k 0 ≡ id → ⊥
+    line j k lt at e =
+        let long = length-all_ids count ids in
+        let same : get_or (all_ids count ids) k 0 ≡ get_or ids j 0
+        = ap (λ n. get_or (all_ids count ids) n 0) at ∙ all_ids-high count ids j in
+        let within : j < length ids = omega arith in
+        let here : get_or ids j 0 ≡ id = omega (arith, same, e) in
+        not_line (j, within, get_or_default ids j id 0 within ∙ here)
 
 -- a binary search that finds nothing tells that nothing is there
 pub not_found : (ids : List ℕ) (id place : ℕ) → (place ≤ length ids) × ((k : ℕ) → k < place → get_or ids k 0 < id)

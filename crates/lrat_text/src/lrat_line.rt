@@ -107,11 +107,7 @@ fn add_hint(
 }
 
 // Reads the literals up to a `0`, in place of those that the list has. The fields behind it are left.
-fn read_literals(
-    rest: &mut Fields<'_>,
-    vars: u32,
-    literals: &mut Vec<Lit>,
-) -> Result<Part, Memory>
+fn read_literals(rest: &mut Fields<'_>, vars: u32, literals: &mut Vec<Lit>) -> Result<Part, Memory>
     ensures { IfOk result (ReadsPart (λ front. LiteralsSay vars front literals.new.items)
         (map (λ f. f.text) rest.old) (map (λ f. f.text) rest.new)) }
 {

@@ -76,12 +76,7 @@ fn pack_into(packed: &mut Vec<PackedLit>, clause: &[Lit]) -> Result<(), Memory>
 }
 
 // Whether the check takes a clause with these hints.
-fn passes(
-    trail: &mut Trail,
-    clauses: &Rows<PackedLit>,
-    clause: &[Lit],
-    hints: &[StepId],
-) -> bool
+fn passes(trail: &mut Trail, clauses: &Rows<PackedLit>, clause: &[Lit], hints: &[StepId]) -> bool
     requires empty { trail.old.lits ≡ [] }
     requires clause_room { HasRoomFor trail.old.vars clause.now }
     requires room { HaveRoomFor trail.old.vars clauses.now }
@@ -170,7 +165,13 @@ impl Steps {
         if literals.is_empty() {
             return Ok(Taken::Empty);
         }
-        push_step(&mut self.ids, &mut self.clauses, id, literals, &mut self.packed)?;
+        push_step(
+            &mut self.ids,
+            &mut self.clauses,
+            id,
+            literals,
+            &mut self.packed,
+        )?;
         Ok(Taken::Passed)
     }
 }

@@ -1,6 +1,5 @@
 use Rattle.std.proofs.Common.{rules, refl, sym, subst, ap, ◌∙◌}
 use Rattle.lrat_text.specs.LratText.{FaultsAt}
-
 use Rattle.lrat_text.proofs.LineCauses.{cut_from, parts_from, open_told, id_told, hints_told, literals_told, id_order_told}
 use Rattle.lrat_text.proofs.lrat_line.read_step.Goals as goal
 
@@ -54,7 +53,9 @@ returns-then-number-last-clause-fault c =
 
 pub returns-then-not-is_closed-clause-fault : goal.returns-then-not-is_closed-clause-fault
 returns-then-not-is_closed-clause-fault c =
-    subst (FaultsAt c.args.line.now.number _) (sym c.fault-then-not-is_closed.ensures)
-    (refl, open_told c.args.vars c.args.last _ _ _ c.in-Some.id.text.now c.read_literals.new.literals.items _
-    c.in_ok-literals.literals c.fields-rest.ensures.texts c.in-Some.ensures.some c.in_ok-literals.ensures
-    c.if-not-is_closed.true)
+    subst (FaultsAt c.args.line.now.number _) (sym c.fault-then-not-is_closed.ensures) (
+      refl,
+      open_told c.args.vars c.args.last _ _ _ c.in-Some.id.text.now c.read_literals.new.literals.items _
+          c.in_ok-literals.literals c.fields-rest.ensures.texts c.in-Some.ensures.some c.in_ok-literals.ensures
+          c.if-not-is_closed.true,
+    )
