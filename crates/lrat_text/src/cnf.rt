@@ -1,8 +1,8 @@
 //! Reading a CNF.
 
-ghost use Rattle.std.specs.Prelude.{◌≡◌, ℕ, ◌≤◌, ◌<◌, [], length, IfOk, IfErr, IfSome, IfNone, OnOk};
+ghost use Rattle.std.specs.Prelude.{◌≡◌, ℕ, ◌≤◌, ◌∷◌, [], codes, length, IfOk, IfErr, IfSome, IfNone, OnOk};
 ghost use Rattle.num_text.specs.Cuts.{field_texts, lines_of};
-ghost use Rattle.num_text.specs.Numerals.{IsReadNumber};
+ghost use Rattle.num_text.specs.Number.{IsNumber};
 ghost use Rattle.num_text.specs.declared.limit.TheConstants.{MAX_INPUT};
 ghost use Rattle.lrat_text.specs.Lines.{cnf_kept};
 ghost use Rattle.lrat_text.specs.CnfText.{IsHeader, IsCnfRead, BeginWith, IsBadHeader, HeaderStands, adds, cut, LineSays};
@@ -13,7 +13,7 @@ use crate::fault::{CnfCause, CnfFault};
 use crate::signed::signed;
 use crate::skips::next_cnf_line;
 use lists::Memory;
-use num_text::{Fields, Line, Lines, fields, line_count, lines};
+use num_text::{Line, Lines, decimal, fields, line_count, lines};
 use plain_lits::{Lit, PackedLit, Rows};
 use std::alloc::Global;
 use std::marker::Model;
@@ -81,19 +81,23 @@ struct Header {
     count: u32,
 }
 
-// The next field as a number of at most `MAX_VARIABLE`.
-fn bounded(parts: &mut Fields<'_>) -> Option<u32> {
-    let field = parts.next_number()?;
-    let number = field.number?;
+// The number that a field spells, where it is at most `MAX_VARIABLE`.
+fn bounded(text: &[u8]) -> Option<u32>
+    ensures some { IfSome result (IsNumber text.now) }
+    ensures few { IfSome result (λ n. n ≤ MAX_VARIABLE) }
+    ensures none { IfNone result ((n : ℕ) → IsNumber text.now n → n ≤ MAX_VARIABLE → ⊥) }
+{
+    let number = decimal(text)?;
     if number > MAX_VARIABLE {
         return None;
     }
     Some(number)
 }
 
-// What a line tells as a header.
-fn header_of(line: &Line<'_>) -> Result<Header, CnfCause>
-    ensures ok { IfOk result (λ h. IsHeader (field_texts line.now.text.now) h.vars h.count) }
+// The third field of a header and its fourth, which is its last.
+fn header_fields<'a>(line: &Line<'a>) -> Result<(&'a [u8], &'a [u8]), CnfCause>
+    ensures ok { IfOk result
+        (λ p. field_texts line.now.text.now ≡ codes "p" ∷ codes "cnf" ∷ p.0.now ∷ p.1.now ∷ []) }
     ensures err { IfErr result (IsFirstCnfCause (HeaderStands (field_texts line.now.text.now))) }
 {
     let mut parts = fields(line);
@@ -105,11 +109,26 @@ fn header_of(line: &Line<'_>) -> Result<Header, CnfCause>
     if kind.text != "cnf".as_bytes() {
         return Err(CnfCause::BadHeader);
     }
-    let vars = bounded(&mut parts).ok_or(CnfCause::BadHeader)?;
-    let count = bounded(&mut parts).ok_or(CnfCause::BadHeader)?;
+    let vars = parts.next().ok_or(CnfCause::BadHeader)?;
+    let count = parts.next().ok_or(CnfCause::BadHeader)?;
     if parts.next().is_some() {
         return Err(CnfCause::BadHeader);
     }
+    Ok((vars.text, count.text))
+}
+
+// What a line tells as a header.
+fn header_of(line: &Line<'_>) -> Result<Header, CnfCause>
+    ensures ok { IfOk result (λ h. IsHeader (field_texts line.now.text.now) h.vars h.count) }
+    ensures err { IfErr result (IsFirstCnfCause (HeaderStands (field_texts line.now.text.now))) }
+{
+    let (first, second) = header_fields(line)?;
+    let Some(vars) = bounded(first) else {
+        return Err(CnfCause::BadHeader);
+    };
+    let Some(count) = bounded(second) else {
+        return Err(CnfCause::BadHeader);
+    };
     Ok(Header { vars, count })
 }
 
