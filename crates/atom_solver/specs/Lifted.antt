@@ -15,7 +15,7 @@ use Rattle.oracle_face.specs.declared.face.Pending.{Pending}
 use Rattle.oracle_face.specs.Logs.{OracleLog, LogStep, SideClause}
 use Rattle.oracle_face.specs.StepSources.{imported_of, source_of}
 use Rattle.oracle_face.specs.declared.step_source.StepSource.{StepSource}
-use Rattle.oracle_face.specs.declared.step_source.StepSource.TheVariants.{Hints}
+use Rattle.oracle_face.specs.declared.step_source.StepSource.TheVariants.{Axiom, Hints}
 use Rattle.atom_solver.specs.States.{AtomState}
 
 -- the atom of a variable, the literal of a literal, and the clause of a clause
