@@ -21,11 +21,11 @@ use Rattle.meaning_atoms.specs.declared.atom.AtomLit.{AtomLit}
 use Rattle.meaning_atoms.specs.declared.atom.Closure.{Closure}
 use Rattle.meaning_atoms.specs.declared.atom.Closure.TheVariants.{Own, Rest}
 use Rattle.meaning_atoms.specs.declared.axiom.AxiomName.TheVariants.{Aba as OfAba}
-use Rattle.meaning_atoms.specs.AbaReadings.{HasContrary, HasNoAtom, HasRule, IsInClosure}
+use Rattle.meaning_atoms.specs.AbaReadings.{HasContrary, HasHit, HasNoAtom, HasRule, IsInClosure}
 use Rattle.meaning_atoms.specs.Literals.{affirmed, denied}
 use Rattle.meaning_atoms.specs.Worlds.{world_of, Holds, HoldsOfAba, IsAbaFact, Says}
 use Rattle.aba_axioms.specs.AbaTable.{aba_clause}
-use Rattle.aba_axioms.proofs.FrameworkLemmas.{attacks_by}
+use Rattle.aba_axioms.proofs.FrameworkLemmas.{attack_hits, attacks_by}
 use Rattle.af_axioms.specs.Facts.{IsFactValue}
 use Rattle.oracle_face.specs.Decoding.{IsDecoded, IsModelOf, IsReadBackInAba, ReadsBack}
 use Rattle.oracle_face.specs.Goals.{IsMode}
@@ -310,6 +310,11 @@ module _ (f : Aba) (values : List AtomLit) (s : List ℕ) (form : IsNumberedAba 
       says_so (Der k x) true there atom = (closures_are k x atom).0 there
       says_so (Der k x) false there atom =
           λ so. consistent f values model (Der k x) ((closures_are k x atom).1 so) there
+      says_so (Hit Own a i) true there place =
+          let told : Affirms values (Hit Own a 1) =
+          subst (λ n. Contains values (affirmed (Hit Own a n))) place.1 there in
+          subst (λ n. HasHit f s Own a n) (sym place.1)
+          (attack_hits f form.form s a (hit_attacked a place.0 told))
       says_so (Range a) true there fixed = tt
       says_so (Tail a i) true there fixed = tt
       says_so Cf true there mode = conflict_free_so there

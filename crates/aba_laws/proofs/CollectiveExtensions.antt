@@ -8,7 +8,7 @@ use Rattle.semantics.specs.Laws.{HasSameMembers}
 use Rattle.semantics.specs.Sets.{HasAllSets}
 use Rattle.semantics.proofs.Decided.{Decided, decide_both, decide_each, decide_implied, decide_member}
 use Rattle.semantics.specs.Collectives.{Collective, AttacksMember, IsAdmissible, IsPreferred, IsStable, IsInAllPreferred}
-use Rattle.aba_laws.specs.Laws.{StableIsPreferred, PreferredIsComplete, AdmissibleIsInPreferred, InAllIsUnattacked, IdealIsUnique}
+use Rattle.aba_laws.specs.Laws.{StableIsPreferred, PreferredIsComplete, AdmissibleIsInPreferred, InAllIsUnattacked, IdealByOthers, IdealIsUnique}
 use Rattle.aba_laws.proofs.CollectiveSets.{IsLawful, member_more, decide_attacks_member, defended_admissible, union_admissible, empty_admissible, admissible_same, decide_admissible}
 use Rattle.semantics.proofs.Existence.{all_sets, decide_within}
 use Rattle.semantics.proofs.SameMembers.{turned}
@@ -184,6 +184,18 @@ module _ (d : Collective) (lawful : IsLawful d) where
     within = λ p pref x c. ⊎_elim (λ k. left.within p pref x k) (λ k. right.within p pref x k)
         (Contains-append_cases s t x c);
   }
+
+  pub ideal_by_others : IdealByOthers d
+  ideal_by_others s others ok each none largest =
+      let in_all = unattacked_in_all s ok none in
+      record {
+        in_all = in_all;
+        largest = λ t it x c.
+            let both = union_in_all s t in_all it in
+            largest (s ++ t) both.admissible (λ y k. Contains-append_left s t y k)
+            (λ o member. (in_all_unattacked (s ++ t) both.admissible).0 both o (each o member))
+            x (Contains-append_right s t x c);
+      }
 
   joined : (sets : List (List ℕ)) (s : List ℕ) → IsInAllPreferred d s → (t : List ℕ) × IsJoined d sets s t
   joined [] s ok = (s, record { in_all = ok; holds = IsWithin-refl s; largest = λ u c. absurd (Contains-nil u c) })

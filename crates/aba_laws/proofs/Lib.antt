@@ -6,5 +6,6 @@ pub mod DerivationLemmas
 pub mod DeductionLemmas
 pub mod AbaLemmas
 pub mod AfAgreement
+pub mod KindLemmas
 pub mod DecidingLemmas
 pub mod FillingLemmas

@@ -4,9 +4,16 @@ use Rattle.semantics.specs.Framework as single
 use Rattle.semantics.specs.Framework.{Af, IsAttackedBy}
 use Rattle.semantics.specs.Collectives as joint
 use Rattle.semantics.specs.Collectives.{Collective}
+use Rattle.semantics.specs.AbaFrameworks.{collective_of}
+use Rattle.semantics.specs.Frameworks.{Framework, af, aba}
 
 abbrev pub collective_af : Af → Collective
 collective_af f = record { live = f.live; attacks = IsAttackedBy f }
+
+-- a framework of either kind as one with collective attacks
+abbrev pub collective_for : Framework → Collective
+collective_for (af f) = collective_af f
+collective_for (aba f) = collective_of f
 
 -- each notion of abstract frameworks is that of collective attacks
 pub record NotionsAgree (f : Af) : Type 0 where

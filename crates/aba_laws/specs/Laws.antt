@@ -40,6 +40,16 @@ abbrev pub InAllIsUnattacked : Collective → Type 0
 InAllIsUnattacked d = (s : List ℕ) → IsAdmissible d s → IsInAllPreferred d s
     ↔ ((t : List ℕ) → IsAdmissible d t → AttacksMember d t s → ⊥)
 
+-- an admissible set that no admissible set attacks is ideal where it has all of each larger admissible set that none of
+-- some admissible sets attacks
+abbrev pub IdealByOthers : Collective → Type 0
+IdealByOthers d = (s : List ℕ) (others : List (List ℕ)) → IsAdmissible d s
+    → ((o : List ℕ) → Contains others o → IsAdmissible d o)
+    → ((t : List ℕ) → IsAdmissible d t → AttacksMember d t s → ⊥)
+    → ((t : List ℕ) → IsAdmissible d t → IsWithin s t
+    → ((o : List ℕ) → Contains others o → AttacksMember d o t → ⊥) → IsWithin t s)
+    → IsIdeal d s
+
 -- there is an ideal set, there is one alone, and it is admissible
 pub record IdealIsUnique (d : Collective) : Type 0 where
   pub exists : (s : List ℕ) × IsIdeal d s

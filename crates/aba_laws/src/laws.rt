@@ -5,9 +5,10 @@ ghost use Rattle.std.specs.Prelude.{List};
 ghost use Rattle.semantics.specs.AbaFrameworks.{Aba, collective_of};
 ghost use Rattle.semantics.specs.Rules.{Rule};
 ghost use Rattle.semantics.specs.Framework.{Af, IsAf};
-ghost use Rattle.aba_laws.specs.AfNotions.{NotionsAgree};
+ghost use Rattle.semantics.specs.Frameworks.{Framework};
+ghost use Rattle.aba_laws.specs.AfNotions.{NotionsAgree, collective_for};
 ghost use Rattle.aba_laws.specs.Laws.{AdmissibleBySets, AdmissibleIsInPreferred, ClosureExists, ClosureIsLeast, DefendedIsAdmissible, DefendsByRest};
-ghost use Rattle.aba_laws.specs.Laws.{DerivedIsDeduced, GroundedIsUnique, IdealIsUnique, InAllIsUnattacked, PreferredIsComplete, StableIsPreferred, UnionIsAdmissible};
+ghost use Rattle.aba_laws.specs.Laws.{DerivedIsDeduced, GroundedIsUnique, IdealByOthers, IdealIsUnique, InAllIsUnattacked, PreferredIsComplete, StableIsPreferred, UnionIsAdmissible};
 
 /// What a set derives can be listed.
 pub fn closure_exists()
@@ -64,9 +65,16 @@ pub fn admissible_is_in_preferred()
     ensures { (f : Aba) → AdmissibleIsInPreferred (collective_of f) }
 {}
 
-/// An admissible set is part of every preferred set exactly where no admissible set attacks it.
+/// An admissible set is part of every preferred set exactly where no admissible set attacks it, in frameworks of both
+/// kinds.
 pub fn in_all_is_unattacked()
-    ensures { (f : Aba) → InAllIsUnattacked (collective_of f) }
+    ensures { (f : Framework) → InAllIsUnattacked (collective_for f) }
+{}
+
+/// An admissible set that no admissible set attacks is ideal where it has all of each larger admissible set that none of
+/// some admissible sets attacks, in frameworks of both kinds.
+pub fn ideal_by_others()
+    ensures { (f : Framework) → IdealByOthers (collective_for f) }
 {}
 
 /// A framework has one ideal set alone, and it is admissible.

@@ -9,7 +9,7 @@ use Rattle.semantics.specs.Framework.{Af, Attacks, IsAttackedBy, Defends, IsInRa
 use Rattle.semantics.specs.Framework.{IsConflictFree, IsAdmissible, IsComplete, IsStable}
 use Rattle.semantics.specs.Frameworks.{af, IsNumberedAf}
 use Rattle.meaning_atoms.specs.declared.atom.Atom.{Atom}
-use Rattle.meaning_atoms.specs.declared.atom.Atom.TheVariants.{Member, Live, Attack, Gap, Tail, Unmet, Range}
+use Rattle.meaning_atoms.specs.declared.atom.Atom.TheVariants.{Member, Live, Attack, Gap, Tail, Unmet, Range, Hit}
 use Rattle.meaning_atoms.specs.declared.atom.Atom.TheVariants.{Cf, Ad, Co, St}
 use Rattle.meaning_atoms.specs.declared.atom.AtomLit.{AtomLit}
 use Rattle.meaning_atoms.specs.declared.axiom.AfAxiom.TheVariants.{A2, A3, A4, A5, A6, A7, A8, A9}
@@ -253,6 +253,7 @@ module _ (f : Af) (values : List AtomLit) (s : List ℕ) (ok : IsNumberedAf f) (
   says_so (Range a) false there place = denied_so (Range a) place there
   says_so (Tail a i) true there place = (places_so (Tail a i) place).0 there
   says_so (Tail a i) false there place = denied_so (Tail a i) place there
+  says_so (Hit k a i) true there fixed = tt
   says_so Cf true there mode = conflict_free_so there
   says_so Ad true there mode = admissible_so there
   says_so Co true there mode = complete_so there

@@ -104,12 +104,12 @@ any_never : {X : Type 0} (p : X → Bool) → ((x : X) → p x ≡ false) → (x
 any_never p never [] = refl
 any_never p never (x ∷ xs) = rw (never x) (any_never p never xs)
 
-none_hit : (f : Framework) (a : ℕ) → hits f [] a ≡ false
-none_hit (af f) a = any_never (λ (p : ℕ × ℕ). eqb p.1 a && has [] p.0) (λ p. and_false (eqb p.1 a)) f.attacks
-none_hit (aba f) a = refl
+none_ranged : (f : Framework) (a : ℕ) → is_ranged f [] a ≡ false
+none_ranged (aba f) a = refl
+none_ranged (af f) a = any_never (λ (p : ℕ × ℕ). eqb p.1 a && has [] p.0) (λ p. and_false (eqb p.1 a)) f.attacks
 
 no_range : (f : Framework) → range_of f [] ≡ []
-no_range f = filter_never (is_ranged f []) (λ x. none_hit f x) (members f)
+no_range f = filter_never (is_ranged f []) (λ x. none_ranged f x) (members f)
 
 no_outs : (f : Framework) (c : Claim) → c.outside ≡ [] → outs f c ≡ []
 no_outs f c e = ap are_out (ap (λ s. filter (has s) (members f)) e ∙ filter_never (has []) (λ x. refl) (members f))

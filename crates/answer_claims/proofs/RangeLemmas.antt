@@ -1,10 +1,9 @@
 -- The test of a range is its fact.
-use Rattle.std.proofs.Common.{◌≡◌, ℕ, Bool, true, false, ◌||◌, not, List, map, filter, ap, refl, sym, subst}
+use Rattle.std.proofs.Common.{◌≡◌, ℕ, not, List, map, filter, ap, sym, subst}
 use Rattle.std.specs.Prelude.{Contains}
 use Rattle.std.specs.Cmp.{both_ways}
 use Rattle.lists.specs.Members.{IsSetOf}
 use Rattle.semantics.specs.Framework.{Af, IsInRange}
-use Rattle.std.proofs.lemmas.Bool.{or_left}
 use Rattle.semantics.specs.AbaFrameworks.{Aba}
 use Rattle.semantics.specs.Frameworks.{Framework, af, aba}
 use Rattle.certificate_claims.specs.SetLiterals.{has, is_ranged, members, wider}
@@ -19,16 +18,12 @@ is_range f s range h = record {
   members = λ a. (λ c. ranged_from f s a ((h.members a).0 c), λ e. (h.members a).1 (ranged_gives f s a e));
 }
 
-or_nothing : (b : Bool) → (b || false) ≡ true → b ≡ true
-or_nothing true h = refl
-or_nothing false h = h
-
 -- the range of a set of the other kind is the set
 pub own_is_range : (f : Aba) (s range : List ℕ) → range ≡ s → IsRangeOf (aba f) s range
 own_is_range f s range same = record {
   members = λ a. (
-    λ c. or_left (has s a) false (has_from s a (subst (λ l. Contains l a) same c)),
-    λ e. subst (λ l. Contains l a) (sym same) (has_gives s a (or_nothing (has s a) e)),
+    λ c. has_from s a (subst (λ l. Contains l a) same c),
+    λ e. subst (λ l. Contains l a) (sym same) (has_gives s a e),
   );
 }
 

@@ -1,7 +1,6 @@
 -- What is found of sets.
-use Rattle.std.specs.Prelude.{◌≡◌, ◌↔◌, ◌⊎◌, ℕ, true, List, Contains}
+use Rattle.std.specs.Prelude.{◌≡◌, ◌↔◌, ℕ, true, List, Contains}
 use Rattle.std.specs.List.{list_any}
-use Rattle.semantics.specs.Framework.{Af, IsAttackedBy}
 use Rattle.semantics.specs.Frameworks.{Framework, af, aba}
 use Rattle.certificate_claims.specs.declared.row.Row.{Row}
 use Rattle.certificate_claims.specs.declared.row.Row.TheVariants.{AllWidest}
@@ -15,10 +14,6 @@ pub record IsRangeOf (f : Framework) (s range : List ℕ) : Type 0 where
 -- the list has just what some set of the list attacks
 pub record IsHitBy (f : Framework) (sets : List (List ℕ)) (hit : List ℕ) : Type 0 where
   pub members : (a : ℕ) → Contains hit a ↔ (list_any (λ t. hits f t a) sets ≡ true)
-
--- the list has gained what the set attacks, and nothing else
-pub record GainsHits (f : Af) (s old new : List ℕ) : Type 0 where
-  pub gains : (a : ℕ) → Contains new a ↔ (Contains old a ⊎ IsAttackedBy f s a)
 
 -- sets whose ranges are asked for: the framework is an abstract one, and they have live arguments alone
 abbrev pub AreSetsOf : Framework → List (List ℕ) → Type 0

@@ -265,13 +265,13 @@ pub fn row(
 }
 
 /// Whether answers by the semantics have rows on the framework: those on assumption-based frameworks have none by
-/// semi-stable, ideal and stage sets.
+/// semi-stable and stage sets.
 fn has_rows(framework: &Framework, semantics: Semantics) -> bool
     ensures has { OnTrue result ((row : Row) → row_where semantics (framework_of framework.now) row ≡ row) }
     ensures none { OnFalse result ((row : Row) → row_where semantics (framework_of framework.now) row ≡ Misshapen) }
 {
     match (framework, semantics) {
-        (Framework::Aba(_), Semantics::SemiStable | Semantics::Ideal | Semantics::Stage) => false,
+        (Framework::Aba(_), Semantics::SemiStable | Semantics::Stage) => false,
         _ => true,
     }
 }

@@ -10,7 +10,7 @@ ghost use Rattle.answer_claims.specs.SideClauses.{literal_of, side_of};
 use crate::kinds::{members_of, range_of};
 use edit_rules::Framework;
 use lists::Memory;
-use meaning_atoms::{Atom, AtomLit};
+use meaning_atoms::{Atom, AtomLit, Closure};
 use set_lists::NumSet;
 use std::alloc::Global;
 
@@ -25,6 +25,8 @@ pub(crate) enum Word {
     Ranged,
     /// A member attacks it.
     Struck,
+    /// The set derives a contrary of it.
+    Contrary,
 }
 
 /// What a side clause says of a set.
@@ -36,7 +38,7 @@ pub enum SideKind {
     Differs,
     /// Something is in the range that isn't in the set's range.
     Wider,
-    /// Something attacks a member of the set.
+    /// A member of the set is attacked.
     Attacked,
 }
 
@@ -59,6 +61,10 @@ pub(crate) fn literal(word: Word, argument: u32) -> AtomLit
         },
         Word::Struck => AtomLit {
             atom: Atom::Tail(argument, 1),
+            positive: true,
+        },
+        Word::Contrary => AtomLit {
+            atom: Atom::Hit(Closure::Own, argument, 1),
             positive: true,
         },
     }
@@ -156,7 +162,7 @@ fn push_wider(
     Ok(())
 }
 
-/// Adds the literals that something attacks a member of the set.
+/// Adds the literals that a member of the set is attacked.
 fn push_attacked(
     clause: &mut Vec<AtomLit>,
     framework: &Framework,
@@ -166,7 +172,7 @@ fn push_attacked(
 {
     match framework {
         Framework::Af(_) => push_all(clause, Word::Struck, set.as_slice()),
-        Framework::Aba(_) => push_all(clause, Word::Struck, set.as_slice()),
+        Framework::Aba(_) => push_all(clause, Word::Contrary, set.as_slice()),
     }
 }
 

@@ -39,6 +39,8 @@ side_in_order side literals is same = record {
   tells = λ l c. is.tells l (same.there l c);
   one_sided = ⊎_elim (λ h. inl (λ l c. h l (same.there l c)))
       (λ h. inr ((λ l c. h.0 l (same.there l c)), still_no_tautology side literals same h.1)) is.one_sided;
+  of_one_kind = ⊎_elim (λ none. inl (λ l c. none l (same.there l c))) (λ all. inr (λ l c. all l (same.there l c)))
+      is.of_one_kind;
 }
 
 -- ---- a side clause that is there, or isn't

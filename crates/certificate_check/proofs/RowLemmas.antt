@@ -129,8 +129,7 @@ known_where f Preferred row shown known = known
 known_where f Stable row shown known = known
 known_where (af f) SemiStable row shown known = known
 known_where (aba f) SemiStable row shown known = (record {}, record {})
-known_where (af f) Ideal row shown known = known
-known_where (aba f) Ideal row shown known = (record {}, record {})
+known_where f Ideal row shown known = known
 known_where (af f) Stage row shown known = known
 known_where (aba f) Stage row shown known = (record {}, record {})
 
@@ -146,7 +145,7 @@ row_of_kind (aba f) Grounded row is = not_wide f Grounded row (λ h. h) is
 row_of_kind (aba f) Preferred row is = not_wide f Preferred row (λ h. h) is
 row_of_kind (aba f) Stable row is = not_wide f Stable row (λ h. h) is
 row_of_kind (aba f) SemiStable row is = record {}
-row_of_kind (aba f) Ideal row is = record {}
+row_of_kind (aba f) Ideal row is = not_wide f Ideal row (λ h. h) is
 row_of_kind (aba f) Stage row is = record {}
 
 -- what is known of an answer's row

@@ -1,40 +1,37 @@
--- What the rows of the table show that are about ranges and about the ideal set, which abstract frameworks alone are
--- asked for: by cases on the kind.
-use Rattle.std.proofs.Common.{◌≡◌, ◌<◌, ℕ, List, [], ◌∷◌, ◌++◌, length, map, filter, arith, refl}
+-- What the rows of the table show that are about ranges, which abstract frameworks alone are asked for: by cases on the
+-- kind.
+use Rattle.std.proofs.Common.{◌≡◌, ◌<◌, ℕ, List, [], ◌∷◌, length, map, filter, arith, refl}
 use Rattle.std.specs.Prelude.{Contains, slice_index_or}
 use Rattle.lists.proofs.Membership.{Contains-nil, Contains-tail}
 use Rattle.iccma_tasks.specs.semantics.specs.declared.mode.Mode.{Mode}
 use Rattle.iccma_tasks.specs.semantics.specs.declared.mode.Mode.TheVariants.{Cf, Ad}
 use Rattle.iccma_tasks.specs.semantics.specs.AbaFrameworks.{Aba}
 use Rattle.iccma_tasks.specs.semantics.specs.Frameworks.{Framework, af, aba, IsNumbered}
-use Rattle.aba_axioms.specs.meaning_atoms.specs.declared.atom.Atom.TheVariants.{Ad as AdAtom}
 use Rattle.aba_axioms.specs.meaning_atoms.specs.declared.atom.AtomLit.{AtomLit}
 use Rattle.aba_axioms.specs.meaning_atoms.specs.Literals.{affirmed}
 use Rattle.aba_axioms.specs.meaning_atoms.specs.Worlds.{HoldsOf, Says, IsAsk}
 use Rattle.iccma_tasks.specs.declared.task.Semantics.{Semantics}
-use Rattle.iccma_tasks.specs.declared.task.Semantics.TheVariants.{Complete, Grounded, Preferred, Stable, SemiStable, Ideal as IdealSets, Stage}
+use Rattle.iccma_tasks.specs.declared.task.Semantics.TheVariants.{Complete, Grounded, Preferred, Stable, SemiStable, Ideal, Stage}
 use Rattle.iccma_tasks.specs.Tasks.{Asked}
 use Rattle.certificate_claims.specs.declared.row.Row.{Row}
 use Rattle.certificate_claims.specs.declared.row.Row.TheVariants.{Widest, Ranged, AllWidest}
 use Rattle.certificate_claims.specs.Acceptance.{NoRangeWithin, Tests}
-use Rattle.certificate_claims.specs.Claims.{claims, mode_atom, row_where, first_ranged, ideal_claims, range_cover, range_free, range_listed, widest_semantics}
+use Rattle.certificate_claims.specs.Claims.{claims, mode_atom, row_where, first_ranged, range_cover, range_free, range_listed, widest_semantics}
 use Rattle.certificate_claims.specs.Rights.{IsExtension}
-use Rattle.certificate_claims.specs.SetLiterals.{range_of, same_range, hit_by_any, are_in, are_out, are_ranged, outside, differs, wider, attacked}
+use Rattle.certificate_claims.specs.SetLiterals.{range_of, same_range, are_ranged, differs, wider}
 use Rattle.certificate_claims.specs.Laws.{AreExcluded}
-use Rattle.certificate_claims.proofs.GoalLists.{asks_nil, asks_cons, asks_append, ad_plain, plain_mapped, excluded_in, each_of}
-use Rattle.certificate_claims.proofs.IdealSets.{shown_ideal}
+use Rattle.certificate_claims.proofs.GoalLists.{asks_nil, asks_cons, plain_mapped, excluded_in, each_of}
 use Rattle.certificate_claims.proofs.LargestSets.{AreExactly}
-use Rattle.certificate_claims.proofs.SideClauses.{in_plain, out_plain, ranged_plain, outside_plain, differs_plain, wider_plain, attacked_plain}
+use Rattle.certificate_claims.proofs.SideClauses.{ranged_plain, differs_plain, wider_plain}
 use Rattle.certificate_claims.proofs.Modes.{mode_plain, widest_extension}
 use Rattle.certificate_claims.proofs.WidestSets.{widest_is, ranged_out, all_widest}
 use Rattle.lists.proofs.Images.{image_there}
 
 -- ---- the frameworks that are asked for a semantics
 
--- answers by the semantics have rows: those on assumption-based frameworks have none by semi-stable, ideal and stage sets
+-- answers by the semantics have rows: those on assumption-based frameworks have none by semi-stable and stage sets
 abbrev pub HasRows : Semantics → Framework → Type 0
 HasRows SemiStable (aba f) = ⊥
-HasRows IdealSets (aba f) = ⊥
 HasRows Stage (aba f) = ⊥
 HasRows semantics f = Unit {0}
 
@@ -48,8 +45,7 @@ row_is_own Preferred f asked row shown sets h = (tt, refl)
 row_is_own Stable f asked row shown sets h = (tt, refl)
 row_is_own SemiStable (af f) asked row shown sets h = (tt, refl)
 row_is_own SemiStable (aba f) asked row shown sets h = absurd (h.shape)
-row_is_own IdealSets (af f) asked row shown sets h = (tt, refl)
-row_is_own IdealSets (aba f) asked row shown sets h = absurd (h.shape)
+row_is_own Ideal f asked row shown sets h = (tt, refl)
 row_is_own Stage (af f) asked row shown sets h = (tt, refl)
 row_is_own Stage (aba f) asked row shown sets h = absurd (h.shape)
 
@@ -118,21 +114,3 @@ are_widest mode (af f) rows all sets numbered ok apart none =
       each = λ e c. (widest_extension mode f e).1 (exact.each e c);
       all = λ e is. exact.all e ((widest_extension mode f e).0 is);
     }
-
--- ---- the ideal set
-
-pub is_ideal : (f : Framework) → HasRows IdealSets f → (e : List ℕ) (others : List (List ℕ)) → IsNumbered f
-    → HoldsOf f e AdAtom
-    → ((o : List ℕ) → Contains others o → HoldsOf f o AdAtom)
-    → AreExcluded f (ideal_claims f (e ∷ others))
-    → IsExtension f IdealSets e
-is_ideal (aba f) rows e others numbered ok each none = absurd rows
-is_ideal (af f) rows e others numbered ok each none =
-    let out = are_out (hit_by_any (af f) others) in
-    shown_ideal f e others numbered ok each
-    (none 0 (omega arith)
-    (plain_mapped (affirmed AdAtom ∷ []) (attacked (af f)) (e ∷ []) (ad_plain [] asks_nil) (attacked_plain (af f))))
-    (none 1 (omega arith)
-    (plain_mapped (affirmed AdAtom ∷ (are_in e ++ out)) (outside (af f)) (e ∷ [])
-    (ad_plain (are_in e ++ out) (asks_append (are_in e) out (in_plain e) (out_plain (hit_by_any (af f) others))))
-    (outside_plain (af f))))

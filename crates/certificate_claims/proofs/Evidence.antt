@@ -22,9 +22,10 @@ use Rattle.certificate_claims.specs.Refutations.{IsPlain}
 use Rattle.certificate_claims.specs.Rights.{Accepts, AreAll, IsExtension}
 use Rattle.certificate_claims.specs.SetLiterals.{goal, are_in, outside, differs}
 use Rattle.certificate_claims.specs.Laws.{AreExcluded}
-use Rattle.certificate_claims.proofs.AfEvidence.{HasRows, is_ideal, are_widest}
+use Rattle.certificate_claims.proofs.AfEvidence.{HasRows, are_widest}
 use Rattle.certificate_claims.proofs.ExtensionFacts.{admissible_world, complete_extension_admissible, stable_extension_admissible}
 use Rattle.certificate_claims.proofs.GoalLists.{meets_nil, meets_cons, asks_nil, asks_cons, ad_plain, plain_mapped, each_of}
+use Rattle.certificate_claims.proofs.IdealSets.{is_ideal}
 use Rattle.certificate_claims.proofs.KindFacts.{admissible_members, complete_is, stable_is, goal_asks_nothing}
 use Rattle.certificate_claims.proofs.LargestSets.{largest_preferred, covered_accepts, tested_listed, all_preferred}
 use Rattle.certificate_claims.proofs.SideClauses.{in_plain, outside_plain, differs_plain}
@@ -103,16 +104,16 @@ pub record IsIdealFound (f : Framework) (number : Option ℕ) (said : Option (Li
   pub shown : IsShown said set
   pub accepts_as_said : AcceptsAsSaid f number accepts set
 
-pub ideal_found : (f : Framework) → HasRows IdealSets f → (asked : Asked) (said : Option (List ℕ))
+pub ideal_found : (f : Framework) (asked : Asked) (said : Option (List ℕ))
     (accepts : Option Bool) (shown sets : List (List ℕ))
     → Shows f asked (Ideal said accepts) shown sets
     → IsIdealFound f asked.number said accepts
-ideal_found f rows asked said accepts shown [] h = absurd (let lt = h.tests.count in omega arith)
-ideal_found f rows asked said accepts shown (e ∷ others) h =
+ideal_found f asked said accepts shown [] h = absurd (let lt = h.tests.count in omega arith)
+ideal_found f asked said accepts shown (e ∷ others) h =
     let first = h.tests.each_set zero (omega arith) in
     record {
       set = e;
-      is = is_ideal f rows e others h.numbered first.0
+      is = is_ideal f e others h.numbered first.0
           (each_of (λ o. HoldsOf f o Ad) others (λ k lt. h.tests.each_set (suc k) (omega arith))) h.none;
       shown = first.1.0;
       accepts_as_said = first.1.1;

@@ -1,93 +1,85 @@
 -- The ideal set.
-use Rattle.std.proofs.Common.{⊎_elim, ℕ, List, [], ◌∷◌, ◌++◌, sym, subst}
+use Rattle.std.proofs.Common.{ℕ, List, [], ◌∷◌, ◌++◌, arith, sym, subst}
 use Rattle.std.specs.Prelude.{Contains}
-use Rattle.std.specs.List.{list_any}
-use Rattle.std.proofs.lemmas.List.Elements.{Contains-append_left, Contains-append_right, Contains-append_cases}
 use Rattle.lists.specs.Members.{IsWithin}
-use Rattle.lists.proofs.Filters.{Contains-filter}
-use Rattle.lists.proofs.ListTests.{any_gives}
-use Rattle.iccma_tasks.specs.semantics.specs.Framework.{Af, IsAdmissible, IsInAllPreferred, IsIdeal}
-use Rattle.iccma_tasks.specs.semantics.specs.Frameworks.{af, IsNumberedAf}
-use Rattle.iccma_tasks.specs.semantics.specs.Laws.{AttacksMember}
-use Rattle.iccma_tasks.specs.semantics.proofs.AdmissibleSets.{union_admissible}
-use Rattle.iccma_tasks.specs.semantics.proofs.Existence.{preferred_round}
-use Rattle.iccma_tasks.specs.semantics.proofs.Extensions.{unattacked_in_all}
-use Rattle.aba_axioms.specs.meaning_atoms.specs.declared.atom.Atom.TheVariants.{Member, Tail, Ad}
+use Rattle.lists.proofs.Images.{image_there}
+use Rattle.iccma_tasks.specs.semantics.specs.Collectives.{AttacksMember, IsAdmissible}
+use Rattle.iccma_tasks.specs.semantics.specs.Frameworks.{Framework, IsNumbered}
+use Rattle.aba_axioms.specs.aba_laws.specs.AfNotions.{collective_for}
+use Rattle.aba_axioms.specs.aba_laws.proofs.CollectiveExtensions.{ideal_by_others}
+use Rattle.aba_axioms.specs.aba_laws.proofs.KindLemmas.{lawful_for}
+use Rattle.aba_axioms.specs.meaning_atoms.specs.declared.atom.Atom.TheVariants.{Member, Ad}
 use Rattle.aba_axioms.specs.meaning_atoms.specs.declared.atom.AtomLit.{AtomLit}
 use Rattle.aba_axioms.specs.meaning_atoms.specs.Literals.{affirmed, denied}
-use Rattle.aba_axioms.specs.meaning_atoms.specs.Worlds.{world_of, IsTrueAlone}
-use Rattle.certificate_claims.proofs.SetTests.{hits_gives}
-use Rattle.certificate_claims.specs.Claims.{claim_of}
+use Rattle.aba_axioms.specs.meaning_atoms.specs.Worlds.{world_of, HoldsOf, IsTrueAlone}
+use Rattle.iccma_tasks.specs.declared.task.Semantics.TheVariants.{Ideal}
+use Rattle.certificate_claims.specs.Claims.{claim_of, ideal_claims}
+use Rattle.certificate_claims.specs.Laws.{AreExcluded}
 use Rattle.certificate_claims.specs.Refutations.{IsExcluded}
-use Rattle.certificate_claims.specs.SetLiterals.{hits, hit_by_any, are_in, are_out, outside, struck, attacked}
+use Rattle.certificate_claims.specs.Rights.{IsExtension}
+use Rattle.certificate_claims.specs.SetLiterals.{hit_by_any, are_in, are_out, outside, struck, attacked}
 use Rattle.certificate_claims.proofs.ExtensionFacts.{admissible_world}
-use Rattle.certificate_claims.proofs.GoalLists.{meets_nil, meets_cons, meets_append, meets_mapped, only_one, fails_mapped}
-use Rattle.certificate_claims.proofs.SideClauses.{within_where_false, meets_in}
-use Rattle.lists.proofs.Images.{image_there}
+use Rattle.certificate_claims.proofs.GoalLists.{meets_nil, meets_cons, meets_append, meets_mapped, only_one, fails_mapped, asks_nil, asks_append, ad_plain, plain_mapped}
+use Rattle.certificate_claims.proofs.KindFacts.{admissible_is, admissible_members, ideal_is, in_hit_list, member_is, struck_is}
+use Rattle.certificate_claims.proofs.SideClauses.{within_where_false, meets_in, in_plain, out_plain, outside_plain, attacked_plain}
 
 -- no admissible set attacks the set
-unattacked : (f : Af) (e : List ℕ) → IsNumberedAf f
-    → IsExcluded (af f) (claim_of (affirmed Ad ∷ []) (attacked (af f) e ∷ []))
-    → (t : List ℕ) → IsAdmissible f t → AttacksMember f t e → ⊥
-unattacked f e numbered none t is h =
-    let b = h.2.0 in
-    let low = (numbered.live b (numbered.form.ends b h.0 h.2.2).0).low in
-    none t (admissible_world (af f) t numbered is)
-    (meets_cons (af f) t (affirmed Ad) [] is (meets_nil (af f) t))
-    (λ side c. subst (λ (clause : List AtomLit). IsTrueAlone (world_of (af f) t) clause)
-    (only_one (attacked (af f) e) side c)
+unattacked : (f : Framework) (e : List ℕ) → IsNumbered f
+    → IsExcluded f (claim_of (affirmed Ad ∷ []) (attacked f e ∷ []))
+    → (t : List ℕ) → IsAdmissible (collective_for f) t → AttacksMember (collective_for f) t e → ⊥
+unattacked f e numbered none t ok h =
+    let is = (admissible_is f t numbered).1 ok in
+    none t (admissible_world f t numbered is)
+    (meets_cons f t (affirmed Ad) [] is (meets_nil f t))
+    (λ side c. subst (λ (clause : List AtomLit). IsTrueAlone (world_of f t) clause)
+    (only_one (attacked f e) side c)
     (record {
-      literal = affirmed (Tail h.0 1);
-      member = image_there (struck (af f)) e h.0 h.1;
-      says = record { attacker = b; late = low; member = h.2.1; attack = h.2.2 };
+      literal = struck f h.0;
+      member = image_there (struck f) e h.0 h.1;
+      says = (struck_is f t h.0 numbered).1 h.2;
     }))
 
--- two sets that are part of every preferred one make an admissible set together
-together : (f : Af) (e t : List ℕ) → IsInAllPreferred f e → IsInAllPreferred f t → IsAdmissible f (t ++ e)
-together f e t left right =
-    let p = preferred_round f e left.admissible in
-    let quiet = p.1.admissible.conflict_free.apart in
-    union_admissible f t e right.admissible left.admissible
-    (λ h. quiet h.2.0 h.0 (right.within p.0 p.1 h.2.0 h.2.1) (left.within p.0 p.1 h.0 h.1) h.2.2)
-    (λ h. quiet h.2.0 h.0 (left.within p.0 p.1 h.2.0 h.2.1) (right.within p.0 p.1 h.0 h.1) h.2.2)
-
--- nothing that an admissible set attacks is in them
-untouched : (f : Af) (e t : List ℕ) (others : List (List ℕ)) → ((o : List ℕ) → Contains others o → IsAdmissible f o)
-    → IsInAllPreferred f e → IsInAllPreferred f t
-    → (u : ℕ) → Contains (hit_by_any (af f) others) u → Contains (t ++ e) u → ⊥
-untouched f e t others ok left right u c member =
-    let m = any_gives (λ o. hits (af f) o u) others
-    ((Contains-filter (λ a. list_any (λ o. hits (af f) o a) others) f.live u).0 c).1 in
-    let hit = hits_gives f m.0 u m.2 in
-    let p = preferred_round f m.0 (ok m.0 m.1) in
-    let there = ⊎_elim (λ k. right.within p.0 p.1 u k) (λ k. left.within p.0 p.1 u k)
-    (Contains-append_cases t e u member) in
-    p.1.admissible.conflict_free.apart hit.0 u (p.2 hit.0 hit.1) there hit.2
+-- an admissible set round it that none of the others attacks lies in it
+no_larger : (f : Framework) (e : List ℕ) (others : List (List ℕ)) → IsNumbered f
+    → IsExcluded f (claim_of (affirmed Ad ∷ (are_in e ++ are_out (hit_by_any f others))) (outside f e ∷ []))
+    → (t : List ℕ) → IsAdmissible (collective_for f) t → IsWithin e t
+    → ((o : List ℕ) → Contains others o → AttacksMember (collective_for f) o t → ⊥) → IsWithin t e
+no_larger f e others numbered none t ok sub quiet =
+    let is = (admissible_is f t numbered).1 ok in
+    let out = are_out (hit_by_any f others) in
+    let r = fails_mapped f (affirmed Ad ∷ (are_in e ++ out)) (outside f) (e ∷ []) none t
+    (admissible_world f t numbered is)
+    (meets_cons f t (affirmed Ad) (are_in e ++ out) is
+    (meets_append f t (are_in e) out (meets_in f e t sub)
+    (meets_mapped f t (λ a. denied (Member a)) (hit_by_any f others)
+    (λ u c h. let by = (in_hit_list f others u numbered).0 c in
+    quiet by.0 by.1 (u, (member_is f t u).0 h, by.2))))) in
+    subst (λ (set : List ℕ). IsWithin t set) (sym (only_one e r.0 r.1))
+    (within_where_false f r.0 t (admissible_members f t is) r.2)
 
 -- the first set is ideal where no admissible set attacks it, and it holds each admissible set round it that has
 -- nothing that one of the others attacks
-pub shown_ideal : (f : Af) (e : List ℕ) (others : List (List ℕ)) → IsNumberedAf f → IsAdmissible f e
-    → ((o : List ℕ) → Contains others o → IsAdmissible f o)
-    → IsExcluded (af f) (claim_of (affirmed Ad ∷ []) (attacked (af f) e ∷ []))
-    → IsExcluded (af f)
-    (claim_of (affirmed Ad ∷ (are_in e ++ are_out (hit_by_any (af f) others))) (outside (af f) e ∷ []))
-    → IsIdeal f e
+pub shown_ideal : (f : Framework) (e : List ℕ) (others : List (List ℕ)) → IsNumbered f → HoldsOf f e Ad
+    → ((o : List ℕ) → Contains others o → HoldsOf f o Ad)
+    → IsExcluded f (claim_of (affirmed Ad ∷ []) (attacked f e ∷ []))
+    → IsExcluded f (claim_of (affirmed Ad ∷ (are_in e ++ are_out (hit_by_any f others))) (outside f e ∷ []))
+    → IsExtension f Ideal e
 shown_ideal f e others numbered ok each first second =
-    let in_all = unattacked_in_all f e ok (unattacked f e numbered first) in
-    record {
-      in_all = in_all;
-      largest = λ t it.
-          let s = t ++ e in
-          let is = together f e t in_all it in
-          let out = are_out (hit_by_any (af f) others) in
-          let r = fails_mapped (af f) (affirmed Ad ∷ (are_in e ++ out)) (outside (af f)) (e ∷ []) second s
-          (admissible_world (af f) s numbered is)
-          (meets_cons (af f) s (affirmed Ad) (are_in e ++ out) is
-          (meets_append (af f) s (are_in e) out
-          (meets_in (af f) e s (λ x c. Contains-append_right t e x c))
-          (meets_mapped (af f) s (λ a. denied (Member a)) (hit_by_any (af f) others)
-          (untouched f e t others each in_all it)))) in
-          let sub : IsWithin s e = subst (λ (set : List ℕ). IsWithin s set) (sym (only_one e r.0 r.1))
-          (within_where_false (af f) r.0 s is.conflict_free.live r.2) in
-          λ x c. sub x (Contains-append_left t e x c);
-    }
+    (ideal_is f e numbered).1 (ideal_by_others (collective_for f) (lawful_for f) e others
+    ((admissible_is f e numbered).0 ok) (λ o c. (admissible_is f o numbered).0 (each o c))
+    (unattacked f e numbered first) (no_larger f e others numbered second))
+
+-- so it is where no set meets the claims of its row
+pub is_ideal : (f : Framework) (e : List ℕ) (others : List (List ℕ)) → IsNumbered f → HoldsOf f e Ad
+    → ((o : List ℕ) → Contains others o → HoldsOf f o Ad)
+    → AreExcluded f (ideal_claims f (e ∷ others))
+    → IsExtension f Ideal e
+is_ideal f e others numbered ok each none =
+    let out = are_out (hit_by_any f others) in
+    shown_ideal f e others numbered ok each
+    (none 0 (omega arith)
+    (plain_mapped (affirmed Ad ∷ []) (attacked f) (e ∷ []) (ad_plain [] asks_nil) (attacked_plain f)))
+    (none 1 (omega arith)
+    (plain_mapped (affirmed Ad ∷ (are_in e ++ out)) (outside f) (e ∷ [])
+    (ad_plain (are_in e ++ out) (asks_append (are_in e) out (in_plain e) (out_plain (hit_by_any f others))))
+    (outside_plain f)))

@@ -1,15 +1,21 @@
 -- What depends on the kind of a framework: each kind gives these facts, by cases, and all else about frameworks of both
 -- kinds follows from them.
 use Rattle.std.proofs.Common.{ℕ, List, [], arith}
-use Rattle.std.specs.Prelude.{◌↔◌, Contains}
+use Rattle.std.specs.Prelude.{◌≡◌, ◌↔◌, true, Contains}
+use Rattle.std.specs.List.{list_any}
 use Rattle.lists.specs.Members.{IsWithin}
+use Rattle.lists.proofs.Filters.{Contains-filter}
+use Rattle.lists.proofs.ListTests.{any_gives, any_from}
 use Rattle.iccma_tasks.specs.semantics.specs.Arguments.{IsArgument}
 use Rattle.iccma_tasks.specs.semantics.specs.Frameworks.{Framework, af, aba, IsNumbered}
 use Rattle.iccma_tasks.specs.semantics.specs.AbaFrameworks.{collective_of}
+use Rattle.iccma_tasks.specs.semantics.specs.Collectives as joint
 use Rattle.iccma_tasks.specs.semantics.proofs.Decided.{Decided, decide_member}
 use Rattle.iccma_tasks.specs.semantics.proofs.Existence.{empty_admissible, preferred_round}
 use Rattle.iccma_tasks.specs.semantics.proofs.Extensions.{preferred_complete, stable_largest}
+use Rattle.aba_axioms.specs.aba_laws.specs.AfNotions.{collective_for}
 use Rattle.aba_axioms.specs.aba_laws.proofs.AbaLemmas.{aba_lawful}
+use Rattle.aba_axioms.specs.aba_laws.proofs.AfAgreement.{notions_agree}
 use Rattle.aba_axioms.specs.aba_laws.proofs.CollectiveExtensions as collective_extensions
 use Rattle.aba_axioms.specs.aba_laws.proofs.CollectiveSets as collective_sets
 use Rattle.aba_axioms.specs.aba_laws.proofs.DerivationLemmas.{decide_derives, derives_more}
@@ -19,11 +25,14 @@ use Rattle.aba_axioms.specs.meaning_atoms.specs.declared.axiom.AxiomName.TheVari
 use Rattle.aba_axioms.specs.meaning_atoms.specs.Literals.{negated}
 use Rattle.aba_axioms.specs.meaning_atoms.specs.Worlds.{IsWorldOf, HoldsOf, Says, IsAsk, IsValid}
 use Rattle.af_axioms.proofs.Rows.{rows_are_valid}
+use Rattle.aba_axioms.proofs.FrameworkLemmas.{attack_hits}
 use Rattle.aba_axioms.proofs.Validity.{clauses_are_valid}
 use Rattle.iccma_tasks.specs.declared.task.Semantics.TheVariants.{Complete, Grounded, Preferred, Stable, SemiStable, Ideal, Stage}
 use Rattle.certificate_claims.specs.Refutations.{IsAxiomOf, axiom_clause}
 use Rattle.certificate_claims.specs.Rights.{Accepts, IsExtension}
-use Rattle.certificate_claims.specs.SetLiterals.{goal, members, struck}
+use Rattle.certificate_claims.specs.SetLiterals.{goal, hits, hit_by_any, members, struck}
+use Rattle.certificate_claims.proofs.SetTests.{hits_from, hits_gives}
+use Rattle.certificate_claims.proofs.Theories.{hits_assumption}
 
 -- ---- numbers
 
@@ -121,7 +130,7 @@ grounded_is (aba f) s = (
   λ h. record { complete = h.complete; least = h.least },
 )
 
--- semi-stable, stage and ideal sets, for which abstract frameworks alone are asked; the notions are there for both kinds
+-- semi-stable and stage sets, for which abstract frameworks alone are asked; the notions are there for both kinds
 pub semi_stable_admissible : (f : Framework) (s : List ℕ) → IsExtension f SemiStable s → HoldsOf f s Ad
 semi_stable_admissible (af f) s h = h.has_mode
 semi_stable_admissible (aba f) s h = h.has_mode
@@ -165,6 +174,55 @@ accepts_more (af f) s t q sub h = sub q h
 accepts_more (aba f) s t q sub h = derives_more f.rules (Contains s) (Contains t) sub q h
 
 -- ---- attacks
+
+-- the test tells what the set attacks
+pub hit_is : (f : Framework) (s : List ℕ) (a : ℕ) → (hits f s a ≡ true) ↔ (collective_for f).attacks s a
+hit_is (af f) s a = (hits_gives f s a, hits_from f s a)
+hit_is (aba f) s a = hits_assumption f s a
+
+-- what is attacked is one of the numbers that sets are made of
+pub attacked_member : (f : Framework) (s : List ℕ) (a : ℕ) → IsNumbered f → (collective_for f).attacks s a
+    → Contains (members f) a
+attacked_member (af f) s a ok at = (ok.form.ends at.0 a at.2).1
+attacked_member (aba f) s a ok at = (ok.form.contraries_are a at.contrary at.is).0
+
+-- what some set of a list attacks
+pub in_hit_list : (f : Framework) (sets : List (List ℕ)) (a : ℕ) → IsNumbered f
+    → Contains (hit_by_any f sets) a ↔ ((t : List ℕ) × Contains sets t × (collective_for f).attacks t a)
+in_hit_list f sets a ok = (
+  λ c. let m = any_gives (λ t. hits f t a) sets
+      ((Contains-filter (λ x. list_any (λ t. hits f t x) sets) (members f) a).0 c).1 in
+      (m.0, m.1, (hit_is f m.0 a).0 m.2),
+  λ h. (Contains-filter (λ x. list_any (λ t. hits f t x) sets) (members f) a).1
+      (attacked_member f h.0 a ok h.2, any_from (λ t. hits f t a) sets h.0 h.1 ((hit_is f h.0 a).1 h.2)),
+)
+
+-- the literal says that the set attacks it
+pub struck_is : (f : Framework) (s : List ℕ) (a : ℕ) → IsNumbered f
+    → Says (struck f a).positive (HoldsOf f s (struck f a).atom) ↔ (collective_for f).attacks s a
+struck_is (af f) s a ok = (
+  λ h. (h.attacker, h.member, h.attack),
+  λ at. record {
+    attacker = at.0;
+    late = (ok.live at.0 (ok.form.ends at.0 a at.2).0).low;
+    member = at.1;
+    attack = at.2;
+  },
+)
+struck_is (aba f) s a ok = (
+  λ h. record { contrary = h.contrary; is = h.is; derived = h.derived },
+  attack_hits f ok.form s a,
+)
+
+-- admissible and ideal sets are those under collective attacks
+pub admissible_is : (f : Framework) (s : List ℕ) → IsNumbered f
+    → HoldsOf f s Ad ↔ joint.IsAdmissible (collective_for f) s
+admissible_is (af f) s ok = (notions_agree f ok.form).admissible s
+admissible_is (aba f) s ok = (λ h. h, λ h. h)
+
+pub ideal_is : (f : Framework) (s : List ℕ) → IsNumbered f → IsExtension f Ideal s ↔ joint.IsIdeal (collective_for f) s
+ideal_is (af f) s ok = (notions_agree f ok.form).ideal s
+ideal_is (aba f) s ok = (λ h. h, λ h. h)
 
 pub struck_asks_nothing : (f : Framework) (a : ℕ) → IsAsk (struck f a).atom → ⊥
 struck_asks_nothing (af f) a h = h

@@ -1,6 +1,7 @@
 pub mod Found
 pub mod OrderLemmas
 pub mod SetTests
+pub mod Theories
 pub mod RisingLists
 pub mod RangeLists
 pub mod KindFacts

@@ -1,5 +1,5 @@
 -- Sets of a mode: what its atom says of them, their members, and the world that each makes.
-use Rattle.std.proofs.Common.{ℕ, List, [], ◌∷◌}
+use Rattle.std.proofs.Common.{ℕ, List, ◌∷◌}
 use Rattle.std.specs.Prelude.{◌↔◌}
 use Rattle.lists.specs.Members.{IsWithin}
 use Rattle.iccma_tasks.specs.semantics.specs.declared.mode.Mode.{Mode}

@@ -40,7 +40,7 @@ shown_is f problem SemiStable number accepts e sets h =
 shown_is f problem Stage number accepts e sets h =
     is_widest OfCf f h.rows e sets h.numbered (h.tests.witnesses 0 (omega arith)).0 h.none
 shown_is f problem Ideal number accepts e sets h =
-    let i = ideal_found f h.rows (asked_of problem Ideal number) (Some e) accepts (e ∷ []) sets h in
+    let i = ideal_found f (asked_of problem Ideal number) (Some e) accepts (e ∷ []) sets h in
     subst (λ (s : List ℕ). IsExtension f Ideal s) i.shown i.is
 
 -- for DC it accepts the query
@@ -54,7 +54,7 @@ shown_accepts f Stable q e sets h = (h.tests.witnesses 0 (omega arith)).1
 shown_accepts f SemiStable q e sets h = (h.tests.witnesses 0 (omega arith)).1
 shown_accepts f Stage q e sets h = (h.tests.witnesses 0 (omega arith)).1
 shown_accepts f Ideal q e sets h =
-    let i = ideal_found f h.rows (asked_of Credulous Ideal (Some q)) (Some e) (Some true) (e ∷ []) sets h in
+    let i = ideal_found f (asked_of Credulous Ideal (Some q)) (Some e) (Some true) (e ∷ []) sets h in
     subst (λ (s : List ℕ). Accepts f s q) i.shown i.accepts_as_said
 
 -- for DS it doesn't
@@ -69,7 +69,7 @@ shown_refuses f Stable q e sets h = (h.tests.witnesses 0 (omega arith)).1
 shown_refuses f SemiStable q e sets h = (h.tests.witnesses 0 (omega arith)).1
 shown_refuses f Stage q e sets h = (h.tests.witnesses 0 (omega arith)).1
 shown_refuses f Ideal q e sets h =
-    let i = ideal_found f h.rows (asked_of Sceptical Ideal (Some q)) (Some e) (Some false) (e ∷ []) sets h in
+    let i = ideal_found f (asked_of Sceptical Ideal (Some q)) (Some e) (Some false) (e ∷ []) sets h in
     subst (λ (s : List ℕ). Accepts f s q → ⊥) i.shown i.accepts_as_said
 
 -- ---- none and each
@@ -98,7 +98,7 @@ none_right f Stage q shown sets h e is accepts =
     none_widest OfCf f h.rows (goal f q) sets h.numbered (goal_asks_nothing f q) h.tests.each_set h.none e is
     ((goal_is f e q).1 accepts)
 none_right f Ideal q shown sets h e is accepts =
-    let i = ideal_found f h.rows (asked_of Credulous Ideal (Some q)) None (Some false) shown sets h in
+    let i = ideal_found f (asked_of Credulous Ideal (Some q)) None (Some false) shown sets h in
     i.accepts_as_said (ideal_accepts f e i.set q is i.is accepts)
 
 -- what doesn't refuse the query accepts it
@@ -124,7 +124,7 @@ each_right f Stage q shown sets h e is =
     accepts_unless f e q (none_widest OfCf f h.rows (negated (goal f q)) sets h.numbered (goal_asks_nothing f q)
     h.tests.each_set h.none e is)
 each_right f Ideal q shown sets h e is =
-    let i = ideal_found f h.rows (asked_of Sceptical Ideal (Some q)) None (Some true) shown sets h in
+    let i = ideal_found f (asked_of Sceptical Ideal (Some q)) None (Some true) shown sets h in
     ideal_accepts f i.set e q i.is is i.accepts_as_said
 
 none_exist : (f : Framework) (problem : Problem) (semantics : Semantics) (number : Option ℕ)

@@ -1,7 +1,6 @@
 -- What the tests of sets decide, and which sets are first with their ranges.
 use Rattle.std.proofs.Common.{◌≡◌, ◌==◌, ◌&&◌, ◌||◌, ⊎_elim, inl, inr, ℕ, Bool, true, false, not, if◌then◌else◌, List, [], ◌∷◌, ◌++◌, filter, refl, sym, ap, subst, ◌∙◌}
 use Rattle.std.specs.Prelude.{◌↔◌, Contains}
-use Rattle.std.specs.List.{list_any}
 use Rattle.std.proofs.lemmas.Bool.{cases_Bool, eqb-true, and_parts, and_from, or_left, or_right, or_from, not_from_false, not_from_true, both_ways, eq-eqb, false_from_ne_true}
 use Rattle.std.proofs.lemmas.List.{append-nil}
 use Rattle.std.proofs.lemmas.List.Elements.{filter-append}
@@ -12,7 +11,7 @@ use Rattle.lists.proofs.Membership.{Contains-head, Contains-tail, Contains-cons_
 use Rattle.iccma_tasks.specs.semantics.specs.Framework.{Af, IsAf, IsAttackedBy, IsInRange, IsRangeWithin}
 use Rattle.iccma_tasks.specs.semantics.specs.Frameworks.{Framework, af}
 use Rattle.certificate_claims.specs.Claims.{first_ranged, has_ranged}
-use Rattle.certificate_claims.specs.SetLiterals.{has, hits, hit_by_any, is_range_within, is_ranged, members, range_of, same_range}
+use Rattle.certificate_claims.specs.SetLiterals.{has, hits, is_range_within, is_ranged, members, range_of, same_range}
 
 -- ---- members, attacks, ranges
 
@@ -58,17 +57,6 @@ pub in_range_list : (f : Af) (s : List ℕ) (a : ℕ) → IsAf f → IsWithin s 
 in_range_list f s a form live = (
   λ c. ranged_gives f s a ((Contains-filter (is_ranged (af f) s) f.live a).0 c).1,
   λ r. (Contains-filter (is_ranged (af f) s) f.live a).1 (in_range_live f s a form live r, ranged_from f s a r),
-)
-
--- what some set of a list attacks
-pub in_hit_list : (f : Af) (sets : List (List ℕ)) (a : ℕ) → IsAf f
-    → Contains (hit_by_any (af f) sets) a ↔ ((t : List ℕ) × Contains sets t × IsAttackedBy f t a)
-in_hit_list f sets a form = (
-  λ c. let m = any_gives (λ t. hits (af f) t a) sets
-      ((Contains-filter (λ x. list_any (λ t. hits (af f) t x) sets) f.live a).0 c).1 in
-      (m.0, m.1, hits_gives f m.0 a m.2),
-  λ h. (Contains-filter (λ x. list_any (λ t. hits (af f) t x) sets) f.live a).1
-      ((form.ends h.2.0 a h.2.2).1, any_from (λ t. hits (af f) t a) sets h.0 h.1 (hits_from f h.0 a h.2)),
 )
 
 -- ---- one range within another

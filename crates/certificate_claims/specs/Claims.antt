@@ -105,11 +105,10 @@ row_for f SomeExtension semantics None answer = some_row semantics answer
 row_for f AllExtensions semantics None answer = all_row semantics answer
 row_for f _ semantics _ answer = Misshapen
 
--- the row, where answers by the semantics have one: those on assumption-based frameworks have none by semi-stable, ideal
--- and stage sets
+-- the row, where answers by the semantics have one: those on assumption-based frameworks have none by semi-stable and
+-- stage sets
 abbrev pub row_where : Semantics → Framework → Row → Row
 row_where SemiStable (aba f) row = Misshapen
-row_where IdealSets (aba f) row = Misshapen
 row_where Stage (aba f) row = Misshapen
 row_where semantics f row = row
 

@@ -1,6 +1,7 @@
 -- The laws of certificates.
-use Rattle.std.specs.Prelude.{◌≡◌, ◌↔◌, ℕ, ◌<◌, List, length, slice_index_or}
+use Rattle.std.specs.Prelude.{◌≡◌, ◌↔◌, ℕ, ◌<◌, true, List, length, slice_index_or}
 use Rattle.iccma_tasks.specs.semantics.specs.Frameworks.{Framework, IsNumbered}
+use Rattle.aba_axioms.specs.aba_laws.specs.AfNotions.{collective_for}
 use Rattle.iccma_tasks.specs.declared.answer.Answer.{Answer}
 use Rattle.iccma_tasks.specs.Tasks.{Asked}
 use Rattle.certificate_claims.specs.declared.certificate.Certificate.{Certificate}
@@ -11,8 +12,13 @@ use Rattle.certificate_claims.specs.Acceptance.{Tests, IsAccepted, no_claim}
 use Rattle.certificate_claims.specs.Claims.{claims, row_of, sets_of}
 use Rattle.certificate_claims.specs.Refutations.{Claim, IsPlain, IsRefutationOf, IsExcluded}
 use Rattle.certificate_claims.specs.Rights.{IsRight}
+use Rattle.certificate_claims.specs.SetLiterals.{hits}
 use Rattle.certificate_claims.specs.Verdicts.{IsVerdict}
 use Rattle.certificate_claims.specs.Agreement.{Agree}
+
+-- the test tells what a set attacks
+abbrev pub HitsAreAttacks : Type 0
+HitsAreAttacks = (f : Framework) (s : List ℕ) (a : ℕ) → (hits f s a ≡ true) ↔ (collective_for f).attacks s a
 
 -- a claim with a refutation is met by no set of the framework
 abbrev pub RefutationsExclude : Type 0

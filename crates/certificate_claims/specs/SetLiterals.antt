@@ -1,8 +1,10 @@
 -- Literals about sets, which are functions of the sets.
-use Rattle.std.specs.Prelude.{ℕ, ◌==◌, Bool, false, not, ◌&&◌, ◌||◌, List, ◌++◌, map, filter}
+use Rattle.std.specs.Prelude.{ℕ, zero, suc, ◌==◌, Bool, not, ◌&&◌, ◌||◌, List, ◌++◌, length, map, filter}
 use Rattle.std.specs.List.{list_any, list_all}
 use Rattle.iccma_tasks.specs.semantics.specs.Frameworks.{Framework, af, aba}
-use Rattle.aba_axioms.specs.meaning_atoms.specs.declared.atom.Atom.TheVariants.{Member, Range, Tail, Der}
+use Rattle.iccma_tasks.specs.semantics.specs.AbaFrameworks.{Aba}
+use Rattle.iccma_tasks.specs.semantics.specs.Rules.{Rule}
+use Rattle.aba_axioms.specs.meaning_atoms.specs.declared.atom.Atom.TheVariants.{Member, Range, Tail, Der, Hit}
 use Rattle.aba_axioms.specs.meaning_atoms.specs.declared.atom.AtomLit.{AtomLit}
 use Rattle.aba_axioms.specs.meaning_atoms.specs.declared.atom.Closure.TheVariants.{Own}
 use Rattle.aba_axioms.specs.meaning_atoms.specs.Literals.{affirmed, denied}
@@ -23,15 +25,29 @@ abbrev pub members : Framework → List ℕ
 members (af f) = f.live
 members (aba f) = f.assumptions
 
--- whether the set attacks it. Only ranges and ideal sets ask so, for which abstract frameworks alone are asked; in the
--- other kind nothing counts as attacked, so that a set's range is its members.
+-- the heads of the rules whose whole bodies are in the list
+abbrev pub ready_heads : List Rule → List ℕ → List ℕ
+ready_heads rules s = map (λ (r : Rule). r.head) (filter (λ (r : Rule). list_all (has s) r.body) rules)
+
+-- the list with the heads of ready rules added so many times
+abbrev pub rounds : ℕ → List Rule → List ℕ → List ℕ
+rounds zero rules s = s
+rounds (suc n) rules s = rounds n rules s ++ ready_heads rules (rounds n rules s)
+
+-- what the set derives: no rule is new after as many rounds as there are rules
+abbrev pub theory : Aba → List ℕ → List ℕ
+theory f s = rounds (length f.rules) f.rules s
+
+-- whether the set attacks it: a member does, or the set derives a contrary of it
 abbrev pub hits : Framework → List ℕ → ℕ → Bool
 hits (af f) s a = list_any (λ p. p.1 == a && has s p.0) f.attacks
-hits (aba f) s a = false
+hits (aba f) s a = list_any (λ p. p.0 == a && has (theory f s) p.1) f.contraries
 
--- whether it is in the set's range
+-- whether it is in the set's range. Abstract frameworks alone are asked for ranges; in the other kind a set's range counts
+-- as its members.
 abbrev pub is_ranged : Framework → List ℕ → ℕ → Bool
-is_ranged f s a = has s a || hits f s a
+is_ranged (af f) s a = has s a || hits (af f) s a
+is_ranged (aba f) s a = has s a
 
 -- the set's range
 abbrev pub range_of : Framework → List ℕ → List ℕ
@@ -77,11 +93,11 @@ differs f e = outside f e ++ are_out e
 abbrev pub wider : Framework → List ℕ → List AtomLit
 wider f e = are_ranged (filter (λ x. not (is_ranged f e x)) (members f))
 
--- the literal that something attacks the member
+-- the literal that the set attacks it
 abbrev pub struck : Framework → ℕ → AtomLit
 struck (af f) a = affirmed (Tail a 1)
-struck (aba f) a = affirmed (Tail a 1)
+struck (aba f) a = affirmed (Hit Own a 1)
 
--- something attacks a member of the set
+-- a member of the given set is attacked
 abbrev pub attacked : Framework → List ℕ → List AtomLit
 attacked f e = map (struck f) e

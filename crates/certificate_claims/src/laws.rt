@@ -1,6 +1,11 @@
 //! Each function does nothing; its contract is the law.
 
-ghost use Rattle.certificate_claims.specs.Laws.{AcceptedIsRight, AcceptedIsVerdict, OneVerdict, RefutationsExclude, RightAnswersAgree, ShownIsRight};
+ghost use Rattle.certificate_claims.specs.Laws.{AcceptedIsRight, AcceptedIsVerdict, HitsAreAttacks, OneVerdict, RefutationsExclude, RightAnswersAgree, ShownIsRight};
+
+/// The test of what a set attacks, by which claims are made, is that of the framework's attacks.
+pub fn hits_are_attacks()
+    ensures { HitsAreAttacks }
+{}
 
 /// Where a refutation of a claim stands, no set of the framework meets the claim's goals and its side clauses.
 pub fn refutations_exclude()

@@ -460,7 +460,6 @@ where_shown SemiStable (aba f) row shown h = tt
 where_shown Stage (af f) (AllWidest mode all) shown h = h
 where_shown Stage (af f) _ shown h = tt
 where_shown Stage (aba f) row shown h = tt
-where_shown IdealSets (aba f) row shown h = tt
 where_shown _ f (AllWidest mode all) shown h = absurd h
 where_shown _ f _ shown h = tt
 

@@ -202,13 +202,11 @@ row_plain f SomeExtension semantics None answer = some_plain semantics answer
 row_plain f AllExtensions semantics None answer = all_row_plain semantics answer
 row_plain f _ semantics _ answer = tt
 
--- answers on assumption-based frameworks have no row by semi-stable, ideal and stage sets
+-- answers on assumption-based frameworks have no row by semi-stable and stage sets
 where_plain : (semantics : Semantics) (f : Framework) (row : Row) → IsPlainRow row
     → IsPlainRow (row_where semantics f row)
 where_plain SemiStable (af f) row plain = plain
 where_plain SemiStable (aba f) row plain = tt
-where_plain IdealSets (af f) row plain = plain
-where_plain IdealSets (aba f) row plain = tt
 where_plain Stage (af f) row plain = plain
 where_plain Stage (aba f) row plain = tt
 where_plain _ f row plain = plain

@@ -5,8 +5,8 @@ use Rattle.std.proofs.lemmas.Bool.{false≢true}
 use Rattle.plain_lits.specs.HintCheck.{IsTautology}
 use Rattle.meaning_atoms.specs.declared.atom.AtomLit.{AtomLit}
 use Rattle.meaning_atoms.specs.Literals.{AsksNothing, negated}
-use Rattle.oracle_face.specs.Goals.{IsOneSided}
-use Rattle.core_logs.specs.Tests.{AsksNone, IsAffirmed, IsOfMember}
+use Rattle.oracle_face.specs.Goals.{IsOfOneKind, IsOneSided}
+use Rattle.core_logs.specs.Tests.{AsksNone, IsAffirmed, IsHit, IsNoHit, IsOfMember}
 
 pub asks_nothing_is : (b : Bool) (clause : List AtomLit)
     → IsTrue b ↔ ((l : AtomLit) → Contains clause l → AsksNone l) → IsTrue b ↔ AsksNothing clause
@@ -44,4 +44,19 @@ one_sided_neither b c clause hb eb hc ec = (
   λ e. absurd (false≢true (sym ec ∙ e)),
   λ one. ⊎_elim (λ all. absurd (false≢true (sym eb ∙ hb.1 (λ l m. record { is = all l m }))))
       (λ both. absurd (false≢true (sym ec ∙ hc.1 (λ l m. record { is = both.0 l m })))) one,
+)
+
+-- where no literal says that a contrary is derived
+pub one_kind_none : (b : Bool) (clause : List AtomLit)
+    → IsTrue b ↔ ((l : AtomLit) → Contains clause l → IsNoHit l) → b ≡ true → IsTrue b ↔ IsOfOneKind clause
+one_kind_none b clause h e = (λ t. inl (λ l c. ((h.0 t) l c).none), λ one. e)
+
+-- where some does
+pub one_kind_all : (b c : Bool) (clause : List AtomLit)
+    → IsTrue b ↔ ((l : AtomLit) → Contains clause l → IsNoHit l) → b ≡ false
+    → IsTrue c ↔ ((l : AtomLit) → Contains clause l → IsHit l) → IsTrue c ↔ IsOfOneKind clause
+one_kind_all b c clause hb eb hc = (
+  λ t. inr (λ l m. ((hc.0 t) l m).is),
+  λ one. ⊎_elim (λ none. absurd (false≢true (sym eb ∙ hb.1 (λ l m. record { none = none l m }))))
+      (λ all. hc.1 (λ l m. record { is = all l m })) one,
 )

@@ -9,7 +9,7 @@ use Rattle.meaning_atoms.specs.AxiomNames.{IsAxiomName}
 use Rattle.meaning_atoms.specs.Literals.{negated}
 use Rattle.meaning_atoms.specs.Worlds.{IsAsk}
 use Rattle.certificate_claims.specs.Refutations.{axiom_clause}
-use Rattle.oracle_face.specs.Goals.{IsMemberAtom, Tells}
+use Rattle.oracle_face.specs.Goals.{IsHitAtom, IsMemberAtom, Tells}
 use Rattle.oracle_face.specs.declared.entry.EntryName.{EntryName}
 use Rattle.oracle_face.specs.Logs.{IsNumberOf, IsSameClause, LogStep, SideClause, by_axiom, side_at, step_at, no_step}
 use Rattle.session_log.specs.Steps.{StandsInHint}
@@ -29,6 +29,13 @@ pub record IsAffirmed (l : AtomLit) : Type 0 where
 -- the literal is about membership
 pub record IsOfMember (l : AtomLit) : Type 0 where
   pub is : IsMemberAtom l.atom
+
+-- the literal says that a contrary is derived, or doesn't
+pub record IsHit (l : AtomLit) : Type 0 where
+  pub is : IsHitAtom l.atom
+
+pub record IsNoHit (l : AtomLit) : Type 0 where
+  pub none : IsHitAtom l.atom → ⊥
 
 -- each literal says what a side clause may say of an argument
 abbrev pub TellAll : List AtomLit → Type 0

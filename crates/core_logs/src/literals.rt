@@ -6,13 +6,13 @@ ghost use Rattle.semantics.specs.Arguments.{IsArgument};
 ghost use Rattle.meaning_atoms.specs.declared.atom.AtomLit.{AtomLit as ALit};
 ghost use Rattle.meaning_atoms.specs.Literals.{AsksNothing, negated};
 ghost use Rattle.meaning_atoms.specs.Worlds.{IsAsk};
-ghost use Rattle.oracle_face.specs.Goals.{IsMemberAtom, IsOneSided, IsSide, Tells};
+ghost use Rattle.oracle_face.specs.Goals.{IsMemberAtom, IsOfOneKind, IsOneSided, IsSide, Tells};
 ghost use Rattle.oracle_face.specs.Logs.{IsSameClause};
-ghost use Rattle.core_logs.specs.Tests.{AsksNone, IsAffirmed, IsOfMember, TellAll};
+ghost use Rattle.core_logs.specs.Tests.{AsksNone, IsAffirmed, IsHit, IsNoHit, IsOfMember, TellAll};
 
 use lists::{Items, Memory};
 use meaning_atoms::laws::literals_are_equal;
-use meaning_atoms::{Atom, AtomLit};
+use meaning_atoms::{Atom, AtomLit, Closure};
 use semantics::is_argument;
 use std::alloc::Global;
 
@@ -85,6 +85,7 @@ fn tells(literal: &AtomLit) -> bool
         (Atom::Member(argument), _) => is_argument(argument),
         (Atom::Range(argument), true) => is_argument(argument),
         (Atom::Tail(argument, from), true) => is_argument(argument) && from == 1,
+        (Atom::Hit(Closure::Own, argument, from), true) => is_argument(argument) && from == 1,
         _ => false,
     }
 }
@@ -128,11 +129,44 @@ fn is_one_sided(clause: &[AtomLit]) -> bool
     all_affirm(clause) || (all_are_members(clause) && !is_tautology(clause))
 }
 
+/// Whether a literal says that a contrary is derived.
+fn is_hit(literal: &AtomLit) -> bool
+    ensures { IsTrue result ↔ IsHit literal.now }
+{
+    matches!(literal.atom, Atom::Hit(..))
+}
+
+/// Whether each literal does.
+fn all_hit(clause: &[AtomLit]) -> bool
+    ensures { IsTrue result ↔ ((l : ALit) → Contains clause.now l → IsHit l) }
+{
+    clause.iter().all(|literal| is_hit(literal))
+}
+
+fn is_no_hit(literal: &AtomLit) -> bool
+    ensures { IsTrue result ↔ IsNoHit literal.now }
+{
+    !matches!(literal.atom, Atom::Hit(..))
+}
+
+/// Whether no literal does.
+fn none_hit(clause: &[AtomLit]) -> bool
+    ensures { IsTrue result ↔ ((l : ALit) → Contains clause.now l → IsNoHit l) }
+{
+    clause.iter().all(|literal| is_no_hit(literal))
+}
+
+fn is_of_one_kind(clause: &[AtomLit]) -> bool
+    ensures { IsTrue result ↔ IsOfOneKind clause.now }
+{
+    none_hit(clause) || all_hit(clause)
+}
+
 /// Whether an oracle may be asked to keep this side clause.
 pub fn is_side(side: &[AtomLit]) -> bool
     ensures { IsTrue result ↔ IsSide side.now }
 {
-    all_tell(side) && is_one_sided(side)
+    all_tell(side) && is_one_sided(side) && is_of_one_kind(side)
 }
 
 /// The same literals again.

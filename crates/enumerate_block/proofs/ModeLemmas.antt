@@ -24,7 +24,7 @@ use Rattle.certificate_claims.proofs.Modes.{mode_members as moded_members}
 use Rattle.certificate_claims.proofs.SideClauses.{differs_plain, ranged_plain, same_where_false}
 use Rattle.oracle_face.specs.declared.face.Found.{Found}
 use Rattle.oracle_face.specs.declared.face.Found.TheVariants.{Set, Refuted}
-use Rattle.oracle_face.specs.Goals.{IsMemberAtom, IsMode, IsSide, MakesTrue, Refutes}
+use Rattle.oracle_face.specs.Goals.{IsHitAtom, IsMemberAtom, IsMode, IsSide, MakesTrue, Refutes}
 use Rattle.oracle_face.specs.Growing.{Grows, IsFound, Making, OnlySide}
 use Rattle.oracle_face.specs.Logs.{IsKept, IsSameClause, OracleLog}
 use Rattle.oracle_face.proofs.GrowingLemmas.{Makes}
@@ -92,6 +92,10 @@ differs_member f e l c =
     (λ m. subst (λ (k : AtomLit). IsMemberAtom k.atom) m.2 tt)
     (differs_form f e l c)
 
+no_hit : (atom : Atom) → IsMemberAtom atom → IsHitAtom atom → ⊥
+no_hit (Member a) is hit = hit
+no_hit _ is hit = is
+
 no_member : (a x : ℕ) → affirmed (Member a) ≡ denied (Member x) → ⊥
 no_member a x e = let b : true ≡ false = ap (λ (l : AtomLit). l.positive) e in absurd (cc)
 
@@ -117,6 +121,7 @@ apart_at f e a h k = differs_member f e (affirmed a) h
 pub differs_side : (f : Framework) (e : List ℕ) → IsNumbered f → IsWithin e (members f) → IsSide (differs f e)
 differs_side f e ok live = speaks_side f (differs f e) ok (differs_speaks f e live)
     (inr (differs_member f e, plain_from (differs f e) (apart_at f e)))
+    (inl (λ l c. no_hit l.atom (differs_member f e l c)))
 
 pub differs_is_side : (f : Framework) (e : List ℕ) (side : List AtomLit) → IsNumbered f → IsWithin e (members f)
     → side ≡ differs f e → IsSide side

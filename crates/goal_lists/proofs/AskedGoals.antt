@@ -10,21 +10,24 @@ use Rattle.plain_lits.specs.HintCheck.{IsTautology}
 use Rattle.plain_lits.proofs.HintCheckLemmas.{Contains-mapped, Contains-from_mapped}
 use Rattle.semantics.specs.Arguments.{IsArgument}
 use Rattle.semantics.specs.Framework.{Af, IsRangeWithin}
-use Rattle.semantics.specs.Frameworks.{Framework, af, IsNumbered, IsNumberedAf}
+use Rattle.semantics.specs.Frameworks.{Framework, af, aba, IsNumbered}
 use Rattle.semantics.proofs.Decided.{decide_member}
 use Rattle.meaning_atoms.specs.declared.atom.Atom.{Atom}
-use Rattle.meaning_atoms.specs.declared.atom.Atom.TheVariants.{Member, Range, Tail, Cf, Ad, Co, St, Ask}
+use Rattle.meaning_atoms.specs.declared.atom.Atom.TheVariants.{Member, Range, Tail, Hit, Cf, Ad, Co, St, Ask}
+use Rattle.meaning_atoms.specs.declared.atom.Closure.TheVariants.{Own}
 use Rattle.meaning_atoms.specs.declared.atom.AtomLit.{AtomLit}
-use Rattle.semantics.specs.Laws.{AttacksMember, HasSameMembers}
+use Rattle.semantics.specs.Laws.{HasSameMembers}
+use Rattle.semantics.specs.Collectives.{AttacksMember}
+use Rattle.aba_laws.specs.AfNotions.{collective_for}
 use Rattle.meaning_atoms.specs.AtomText.{numbers_of}
 use Rattle.meaning_atoms.specs.Literals.{affirmed, denied, negated}
 use Rattle.meaning_atoms.specs.Worlds.{world_of, HoldsOf, Says, IsTrueAlone}
 use Rattle.oracle_face.specs.certificate_claims.specs.Refutations.{Claim}
 use Rattle.oracle_face.specs.certificate_claims.proofs.SetTests.{has_from, has_gives, ranged_from}
-use Rattle.oracle_face.specs.certificate_claims.specs.SetLiterals.{has, is_ranged, members, are_in, are_out, are_ranged, outside, differs, wider, attacked}
-use Rattle.oracle_face.specs.certificate_claims.proofs.KindFacts.{member_is, numbered_members}
+use Rattle.oracle_face.specs.certificate_claims.specs.SetLiterals.{has, is_ranged, members, are_in, are_out, are_ranged, outside, differs, wider, attacked, struck}
+use Rattle.oracle_face.specs.certificate_claims.proofs.KindFacts.{member_is, numbered_members, struck_is}
 use Rattle.oracle_face.specs.Logs.{OracleLog, SideClause, IsNumberOf, IsSameClause, side_at}
-use Rattle.oracle_face.specs.Goals.{AreGoals, AsksSide, IsClaimSide, IsGoal, IsMode, IsOneSided, IsSide, IsWithinClaim, MakesTrue, SpeaksOf, Tells}
+use Rattle.oracle_face.specs.Goals.{AreGoals, AsksSide, IsClaimSide, IsGoal, IsMode, IsHitAtom, IsOfOneKind, IsOneSided, IsSide, IsWithinClaim, MakesTrue, SpeaksOf, Tells}
 use Rattle.oracle_face.proofs.StepTruth.{side_literals}
 use Rattle.goal_lists.specs.Asking.{are_asked, goals_of, IsAskable, IsPlaced}
 
@@ -196,12 +199,15 @@ tells_more : (P Q : ℕ → Type 0) → ((a : ℕ) → P a → Q a) → (atom : 
 tells_more P Q all (Member a) positive h = all a h
 tells_more P Q all (Range a) true h = all a h
 tells_more P Q all (Tail a i) true h = (all a h.0, h.1)
+tells_more P Q all (Hit Own a i) true h = (all a h.0, h.1)
 tells_more P Q all _ _ h = absurd h
 
-pub speaks_side : (f : Framework) (side : List AtomLit) → IsNumbered f → SpeaksOf f side → IsOneSided side → IsSide side
-speaks_side f side ok speaks one = record {
+pub speaks_side : (f : Framework) (side : List AtomLit) → IsNumbered f → SpeaksOf f side → IsOneSided side
+    → IsOfOneKind side → IsSide side
+speaks_side f side ok speaks one kind = record {
   tells = λ l c. tells_more (Contains (members f)) IsArgument (numbered_members f ok) l.atom l.positive (speaks l c);
   one_sided = one;
+  of_one_kind = kind;
 }
 
 pub speaks_same : (f : Framework) (clause other : List AtomLit) → IsSameClause clause other → SpeaksOf f other
@@ -270,6 +276,7 @@ outside_speaks f e l c =
 pub outside_side : (f : Framework) (e : List ℕ) → IsNumbered f → IsSide (outside f e)
 outside_side f e ok = speaks_side f (outside f e) ok (outside_speaks f e)
     (inl (λ l c. let m = outside_form f e l c in subst (λ (k : AtomLit). k.positive ≡ true) m.3 refl))
+    (inl (λ l c. let m = outside_form f e l c in subst (λ (k : AtomLit). IsHitAtom k.atom → ⊥) m.3 (λ h. h)))
 
 pub wider_speaks : (f : Framework) (e : List ℕ) → SpeaksOf f (wider f e)
 wider_speaks f e l c =
@@ -279,16 +286,38 @@ wider_speaks f e l c =
 pub wider_side : (f : Framework) (e : List ℕ) → IsNumbered f → IsSide (wider f e)
 wider_side f e ok = speaks_side f (wider f e) ok (wider_speaks f e)
     (inl (λ l c. let m = wider_form f e l c in subst (λ (k : AtomLit). k.positive ≡ true) m.3 refl))
+    (inl (λ l c. let m = wider_form f e l c in subst (λ (k : AtomLit). IsHitAtom k.atom → ⊥) m.3 (λ h. h)))
 
-pub attacked_speaks : (f : Af) (e : List ℕ) → IsWithin e f.live → SpeaksOf (af f) (attacked (af f) e)
+-- what stands in the side clause that a set is attacked
+pub attacked_form : (f : Framework) (e : List ℕ) (l : AtomLit) → Contains (attacked f e) l
+    → (a : ℕ) × Contains e a × (struck f a ≡ l)
+attacked_form f e l c = Contains-from_mapped (struck f) e l c
+
+struck_tells : (f : Framework) (P : ℕ → Type 0) (a : ℕ) → P a → Tells P (struck f a).atom (struck f a).positive
+struck_tells (af f) P a h = (h, refl)
+struck_tells (aba f) P a h = (h, refl)
+
+struck_affirms : (f : Framework) (a : ℕ) → (struck f a).positive ≡ true
+struck_affirms (af f) a = refl
+struck_affirms (aba f) a = refl
+
+pub attacked_speaks : (f : Framework) (e : List ℕ) → IsWithin e (members f) → SpeaksOf f (attacked f e)
 attacked_speaks f e live l c =
-    let m = Contains-from_mapped (λ a. affirmed (Tail a 1)) e l c in
-    subst (λ (k : AtomLit). Tells (Contains f.live) k.atom k.positive) m.2 (live m.0 m.1, refl)
+    let m = attacked_form f e l c in
+    subst (λ (k : AtomLit). Tells (Contains (members f)) k.atom k.positive) m.2
+    (struck_tells f (Contains (members f)) m.0 (live m.0 m.1))
 
-pub attacked_side : (f : Af) (e : List ℕ) → IsNumberedAf f → IsWithin e f.live → IsSide (attacked (af f) e)
-attacked_side f e ok live = speaks_side (af f) (attacked (af f) e) ok (attacked_speaks f e live)
-    (inl (λ l c. let m = Contains-from_mapped (λ a. affirmed (Tail a 1)) e l c in
-    subst (λ (k : AtomLit). k.positive ≡ true) m.2 refl))
+attacked_kind : (f : Framework) (e : List ℕ) → IsOfOneKind (attacked f e)
+attacked_kind (af f) e =
+    inl (λ l c. let m = attacked_form (af f) e l c in subst (λ (k : AtomLit). IsHitAtom k.atom → ⊥) m.2 (λ h. h))
+attacked_kind (aba f) e =
+    inr (λ l c. let m = attacked_form (aba f) e l c in subst (λ (k : AtomLit). IsHitAtom k.atom) m.2 tt)
+
+pub attacked_side : (f : Framework) (e : List ℕ) → IsNumbered f → IsWithin e (members f) → IsSide (attacked f e)
+attacked_side f e ok live = speaks_side f (attacked f e) ok (attacked_speaks f e live)
+    (inl (λ l c. let m = attacked_form f e l c in
+    subst (λ (k : AtomLit). k.positive ≡ true) m.2 (struck_affirms f m.0)))
+    (attacked_kind f e)
 
 pub differs_form : (f : Framework) (e : List ℕ) (l : AtomLit) → Contains (differs f e) l
     → ((a : ℕ) × Contains (members f) a × (Contains e a → ⊥) × (affirmed (Member a) ≡ l))
@@ -346,9 +375,11 @@ not_same f e set t same =
     (differs_form f e t.literal t.member)
 
 -- a set that makes the side clause `attacked` of another true attacks a member of it
-pub attacks_one : (f : Af) (e set : List ℕ) → IsTrueAlone (world_of (af f) set) (attacked (af f) e)
-    → AttacksMember f set e
-attacks_one f e set t =
-    let m = Contains-from_mapped (λ a. affirmed (Tail a 1)) e t.literal t.member in
-    let h = subst (λ (k : AtomLit). Says k.positive (HoldsOf (af f) set k.atom)) (sym m.2) t.says in
-    (m.0, m.1, (h.attacker, h.member, h.attack))
+pub attacks_one : (f : Framework) (e set : List ℕ) → IsNumbered f → IsTrueAlone (world_of f set) (attacked f e)
+    → AttacksMember (collective_for f) set e
+attacks_one f e set ok t =
+    let m = attacked_form f e t.literal t.member in (
+      m.0,
+      m.1,
+      (struck_is f set m.0 ok).0 (subst (λ (k : AtomLit). Says k.positive (HoldsOf f set k.atom)) (sym m.2) t.says),
+    )

@@ -1,6 +1,6 @@
 -- What of the goals depends on the kind of a framework or on a mode, by cases on it; certificate_claims has the rest, in
 -- KindFacts and Modes.
-use Rattle.std.proofs.Common.{◌≡◌, ℕ, Bool, true, false, not, List, refl, ap, sym}
+use Rattle.std.proofs.Common.{◌≡◌, ℕ, Bool, false, not, List, [], ◌++◌, map, refl, ap, sym, ◌∙◌}
 use Rattle.std.specs.Prelude.{Contains}
 use Rattle.std.specs.Cmp.{both_ways}
 use Rattle.std.proofs.lemmas.Bool.{false≢true}
@@ -8,14 +8,14 @@ use Rattle.lists.specs.Members.{IsSetOf}
 use Rattle.semantics.specs.declared.mode.Mode.{Mode}
 use Rattle.semantics.specs.declared.mode.Mode.TheVariants.{Cf, Ad}
 use Rattle.semantics.specs.Frameworks.{Framework, af, aba}
+use Rattle.meaning_atoms.specs.declared.atom.AtomLit.{AtomLit}
 use Rattle.meaning_atoms.specs.Literals.{affirmed}
 use Rattle.iccma_tasks.specs.declared.task.Kind.TheVariants.{Aba as OfAba}
 use Rattle.iccma_tasks.specs.declared.task.Problem.{Problem}
 use Rattle.iccma_tasks.specs.declared.task.Problem.TheVariants.{Credulous, Sceptical, SomeExtension, AllExtensions}
-use Rattle.iccma_tasks.specs.declared.task.Semantics.TheVariants.{Ideal}
 use Rattle.iccma_tasks.specs.Tasks.{HasTask}
 use Rattle.oracle_face.specs.certificate_claims.specs.Claims.{mode_atom, widest_semantics}
-use Rattle.oracle_face.specs.certificate_claims.specs.SetLiterals.{goal, has, is_ranged, members}
+use Rattle.oracle_face.specs.certificate_claims.specs.SetLiterals.{attacked, goal, has, is_ranged, members}
 use Rattle.oracle_face.specs.certificate_claims.proofs.SetTests.{has_from, has_gives, ranged_from, ranged_gives}
 use Rattle.oracle_face.specs.Goals.{IsGoal, IsMode}
 use Rattle.oracle_face.specs.Kinds.{IsRanged, is_assumption_based}
@@ -23,6 +23,8 @@ use Rattle.oracle_face.specs.Logs.{SideClause}
 use Rattle.answer_claims.specs.edit_rules.specs.Fitting.{IsKnown}
 use Rattle.answer_claims.specs.edit_rules.specs.Kinds.{kind_of}
 use Rattle.goal_lists.specs.Asking.{query_atom}
+use Rattle.goal_lists.specs.Words.{literal_of, struck_word}
+use Rattle.goal_lists.specs.declared.literal_lists.Word.{Word}
 
 -- the goal of a query is that of its kind
 pub goal_by_kind : (f : Framework) (q : ℕ) → goal f q ≡ affirmed (query_atom (is_assumption_based f) q)
@@ -40,7 +42,7 @@ pub atom_is_mode : (mode : Mode) → IsMode (mode_atom mode)
 atom_is_mode Cf = tt
 atom_is_mode Ad = tt
 
--- frameworks that have a task about sets with widest ranges, or about ideal ones, are abstract
+-- frameworks that have a task about sets with widest ranges are abstract
 no_widest : (mode : Mode) (problem : Problem) → HasTask OfAba problem (widest_semantics mode) → ⊥
 no_widest Cf Credulous has = has
 no_widest Cf Sceptical has = has
@@ -51,27 +53,32 @@ no_widest Ad Sceptical has = has
 no_widest Ad SomeExtension has = has
 no_widest Ad AllExtensions has = has
 
-no_ideal : (problem : Problem) → HasTask OfAba problem Ideal → ⊥
-no_ideal Credulous has = has
-no_ideal Sceptical has = has
-no_ideal SomeExtension has = has
-no_ideal AllExtensions has = has
-
 pub widest_abstract : (mode : Mode) (f : Framework) (problem : Problem)
     → HasTask (kind_of f) problem (widest_semantics mode) → is_assumption_based f ≡ false
 widest_abstract mode (af f) problem has = refl
 widest_abstract mode (aba f) problem has = absurd (no_widest mode problem has)
-
-pub ideal_abstract : (f : Framework) (problem : Problem) → HasTask (kind_of f) problem Ideal
-    → is_assumption_based f ≡ false
-ideal_abstract (af f) problem has = refl
-ideal_abstract (aba f) problem has = absurd (no_ideal problem has)
 
 -- what is asked about by sets with widest ranges is a member of the framework
 pub known_member : (mode : Mode) (f : Framework) (problem : Problem) (q : ℕ)
     → HasTask (kind_of f) problem (widest_semantics mode) → IsKnown f q → Contains (members f) q
 known_member mode (af f) problem q has known = known
 known_member mode (aba f) problem q has known = absurd (no_widest mode problem has)
+
+-- the side clause that a set is attacked has the word of the kind
+attacked_by_kind : (f : Framework) (e : List ℕ)
+    → map (literal_of (struck_word (is_assumption_based f))) e ≡ attacked f e
+attacked_by_kind (af f) e = refl
+attacked_by_kind (aba f) e = refl
+
+pub attacked_made : (f : Framework) (is_aba : Bool) (word : Word) (before after : List AtomLit) (numbers e : List ℕ)
+    → is_aba ≡ is_assumption_based f → word ≡ struck_word is_aba → before ≡ [] → numbers ≡ e
+    → after ≡ before ++ map (literal_of word) numbers → after ≡ attacked f e
+attacked_made f is_aba word before after numbers e kind is none same made =
+    made
+    ∙ (ap (λ (xs : List AtomLit). xs ++ map (literal_of word) numbers) none
+    ∙ (ap (λ (xs : List ℕ). map (literal_of word) xs) same
+    ∙ (ap (λ (w : Word). map (literal_of w) e) (is ∙ ap struck_word kind)
+    ∙ attacked_by_kind f e)))
 
 -- the test of a range in an abstract framework is its fact
 pub range_test : (f : Framework) (set range : List ℕ) (x : ℕ) → is_assumption_based f ≡ false

@@ -1,17 +1,16 @@
 //! Lists of literals about sets.
 
 ghost use Rattle.std.specs.Prelude.{ℕ, List, ◌≡◌, ◌++◌, ◌∷◌, [], false, not, map, filter, IfOk, OnOk};
-ghost use Rattle.semantics.specs.Framework.{Af};
-ghost use Rattle.semantics.specs.Frameworks.{Framework, af};
+ghost use Rattle.semantics.specs.Frameworks.{Framework};
 ghost use Rattle.meaning_atoms.specs.Literals as literals;
 ghost use Rattle.oracle_face.specs.certificate_claims.specs.SetLiterals.{are_in, are_out, are_ranged, has, members};
 ghost use Rattle.oracle_face.specs.certificate_claims.specs.SetLiterals as set_literals;
 ghost use Rattle.oracle_face.specs.Kinds.{IsRanged, is_assumption_based};
 ghost use Rattle.lists.specs.Members.{IsSetOf};
-ghost use Rattle.goal_lists.specs.Words.{literal_of};
+ghost use Rattle.goal_lists.specs.Words.{literal_of, struck_word};
 
 use lists::Memory;
-use meaning_atoms::{Atom, AtomLit};
+use meaning_atoms::{Atom, AtomLit, Closure};
 use set_lists::NumSet;
 use std::alloc::Global;
 
@@ -26,6 +25,8 @@ pub(crate) enum Word {
     Ranged,
     /// A member attacks it.
     Struck,
+    /// The members derive a contrary of it.
+    Countered,
 }
 
 /// The literal that says an atom.
@@ -50,6 +51,7 @@ fn literal(word: Word, number: u32) -> AtomLit
         },
         Word::Ranged => affirmed(Atom::Range(number)),
         Word::Struck => affirmed(Atom::Tail(number, 1)),
+        Word::Countered => affirmed(Atom::Hit(Closure::Own, number, 1)),
     }
 }
 
@@ -155,11 +157,20 @@ pub fn wider(alloc: Global, members: &NumSet, range: &NumSet) -> Result<Vec<Atom
     Ok(clause)
 }
 
-/// The side clause that something attacks a member of a set of arguments.
-pub fn attacked(alloc: Global, set: &NumSet) -> Result<Vec<AtomLit>, Memory>
-    ensures { IfOk result (λ clause. (f : Af) → clause.items ≡ set_literals.attacked (af f) set.now) }
+/// The word that a number is attacked.
+fn word_of_attack(is_aba: bool) -> Word
+    ensures { result ≡ struck_word is_aba }
 {
+    if is_aba { Word::Countered } else { Word::Struck }
+}
+
+/// The side clause that a member of a set is attacked, by whether the framework is assumption-based.
+pub fn attacked(alloc: Global, is_aba: bool, set: &NumSet) -> Result<Vec<AtomLit>, Memory>
+    ensures { IfOk result (λ clause. (f : Framework) → is_aba ≡ is_assumption_based f
+        → clause.items ≡ set_literals.attacked f set.now) }
+{
+    let word = word_of_attack(is_aba);
     let mut clause = Vec::new(alloc);
-    push_all(&mut clause, Word::Struck, set.as_slice())?;
+    push_all(&mut clause, word, set.as_slice())?;
     Ok(clause)
 }

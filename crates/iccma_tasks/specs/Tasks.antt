@@ -34,12 +34,11 @@ abbrev pub task_of : Problem → Semantics → Task
 task_of problem semantics = record { problem = problem; semantics = semantics }
 
 -- frameworks of that kind have the task: all problems by all semantics, but that single sets are not enumerated, and
--- assumption-based frameworks have no semi-stable, ideal and stage sets
+-- assumption-based frameworks have no semi-stable and stage sets
 abbrev pub HasTask : Kind → Problem → Semantics → Type 0
 HasTask _ AllExtensions Grounded = ⊥
 HasTask _ AllExtensions Ideal = ⊥
 HasTask Aba _ SemiStable = ⊥
-HasTask Aba _ Ideal = ⊥
 HasTask Aba _ Stage = ⊥
 HasTask _ _ _ = Unit {0}
 

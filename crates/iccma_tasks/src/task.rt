@@ -169,14 +169,14 @@ impl Task {
     }
 
     /// Whether it is asked of frameworks of that kind. All problems are, by all semantics, but for two: there is only one
-    /// grounded set and one ideal set to enumerate; and assumption-based frameworks have no semi-stable, ideal and stage
-    /// sets here.
+    /// grounded set and one ideal set to enumerate; and assumption-based frameworks have no semi-stable and stage sets
+    /// here.
     pub fn is_for(self, kind: Kind) -> bool
         ensures { IsTrue result ↔ IsTaskOf kind self }
     {
         match (kind, self.problem, self.semantics) {
             (_, Problem::AllExtensions, Semantics::Grounded | Semantics::Ideal) => false,
-            (Kind::Aba, _, Semantics::SemiStable | Semantics::Ideal | Semantics::Stage) => false,
+            (Kind::Aba, _, Semantics::SemiStable | Semantics::Stage) => false,
             _ => true,
         }
     }

@@ -1,29 +1,27 @@
-use Rattle.std.proofs.Common.{◌≡◌, ◌↔◌, inl, inr, ⊎_elim, ℕ, ◌+◌, ◌*◌, ◌<◌, ◌≤◌, false, List, [], ◌∷◌, ◌++◌, length}
+use Rattle.std.proofs.Common.{◌≡◌, ◌↔◌, inl, inr, ⊎_elim, ℕ, ◌+◌, ◌*◌, ◌<◌, ◌≤◌, List, [], ◌∷◌, ◌++◌, length}
 use Rattle.std.proofs.Common.{refl, ap, sym, subst, ◌∙◌, arith}
 use Rattle.std.specs.Prelude.{Contains, Err, IfOk, Ok, Result, slice_index_or, ◌⊎◌}
 use Rattle.std.specs.List.{list_any}
 use Rattle.std.specs.List.Sorted.{IsStrictlyIncreasing}
 use Rattle.meaning_atoms.specs.AtomText.{numbers_of}
-use Rattle.std.proofs.lemmas.Bool.{false≢true}
 use Rattle.std.proofs.lemmas.List.{length-append}
 use Rattle.std.proofs.lemmas.List.Kept.{IsStrictlyIncreasing-filter}
 use Rattle.std.proofs.lemmas.List.Elements.{Contains-append_left, Contains-append_cases}
 use Rattle.lists.specs.Members.{IsWithin, IsSetOf}
 use Rattle.lists.proofs.Membership.{Contains-nil, Contains-head, Contains-pushed}
 use Rattle.plain_lits.specs.declared.halt.Halt.{Halt}
-use Rattle.plain_lits.proofs.HintCheckLemmas.{Contains-mapped, Contains-from_mapped}
-use Rattle.semantics.specs.Framework.{Af}
+use Rattle.plain_lits.proofs.HintCheckLemmas.{Contains-mapped}
 use Rattle.semantics.specs.Frameworks.{Framework, af, aba, IsNumbered}
-use Rattle.meaning_atoms.specs.declared.atom.Atom.TheVariants.{Tail, Ad}
+use Rattle.meaning_atoms.specs.declared.atom.Atom.TheVariants.{Ad}
 use Rattle.meaning_atoms.specs.declared.atom.AtomLit.{AtomLit}
 use Rattle.meaning_atoms.specs.Literals.{affirmed}
 use Rattle.meaning_atoms.specs.Worlds.{HoldsOf}
 use Rattle.iccma_tasks.specs.declared.task.Semantics.TheVariants.{Ideal}
 use Rattle.certificate_claims.specs.Refutations.{IsPlain}
 use Rattle.certificate_claims.specs.Rights.{IsExtension}
-use Rattle.certificate_claims.specs.SetLiterals.{attacked, hit_by_any, hits, members}
+use Rattle.certificate_claims.specs.SetLiterals.{attacked, hit_by_any, hits, members, struck}
 use Rattle.certificate_claims.proofs.RisingLists.{same_rising}
-use Rattle.certificate_claims.proofs.SetTests.{in_hit_list}
+use Rattle.certificate_claims.proofs.KindFacts.{attacked_member, in_hit_list}
 use Rattle.certificate_claims.proofs.GoalLists.{asks_cons, asks_nil, only_one, plain_mapped}
 use Rattle.certificate_claims.proofs.IdealSets.{shown_ideal}
 use Rattle.certificate_claims.proofs.SideClauses.{attacked_plain}
@@ -31,15 +29,15 @@ use Rattle.oracle_face.specs.declared.face.Found.{Found}
 use Rattle.oracle_face.specs.declared.face.Found.TheVariants.{Set, Refuted}
 use Rattle.oracle_face.specs.Goals.{IsClaimSide, IsSide, Refutes, SpeaksOf}
 use Rattle.oracle_face.specs.Growing.{Grows, IsFound, Making, OnlySide}
-use Rattle.oracle_face.specs.Kinds.{IsRanged, is_assumption_based}
+use Rattle.oracle_face.specs.Kinds.{IsRanged}
 use Rattle.oracle_face.specs.Logs.{IsKept, IsNumberOf, IsSameClause, OracleLog, SideClause, side_at}
 use Rattle.oracle_face.proofs.GrowingLemmas.{Makes}
 use Rattle.oracle_face.proofs.Refuting.{claim_excluded, grown_side, number_grown, refutes_claim, refutes_grown}
 use Rattle.goal_lists.specs.Asking.{goals_of, IsAskableBeside}
 use Rattle.goal_lists.specs.Sides.{IsAskOf, IsFoundBeside}
-use Rattle.goal_lists.proofs.AskedGoals.{asked_there, asked_true, attacked_side, attacked_speaks, attacks_one}
+use Rattle.goal_lists.proofs.AskedGoals.{asked_there, asked_true, attacked_form, attacked_side, attacked_speaks, attacks_one}
 use Rattle.goal_lists.proofs.AskedGoals.{within_claim}
-use Rattle.goal_lists.proofs.Calls.{apart_pushed, asks_fit, found_mode}
+use Rattle.goal_lists.proofs.Calls.{admissible_members, apart_pushed, asks_fit, found_mode}
 use Rattle.goal_lists.proofs.Measures.{fewer_outside}
 use Rattle.goal_lists.proofs.SideLemmas.{ask_claim, beside_means, this_one}
 use Rattle.ideal_set.specs.declared.attackers.Attackers.{Attackers}
@@ -57,15 +55,9 @@ use Rattle.ideal_set.proofs.FreeLemmas.{free_plain}
 
 -- ---- what is asked
 
-pub attacked_from : (f : Framework) (side : List AtomLit) (e : List ℕ) → is_assumption_based f ≡ false
-    → ((h : Af) → side ≡ attacked (af h) e) → side ≡ attacked f e
-attacked_from (af h) side e kind is = is h
-attacked_from (aba h) side e kind is = absurd (false≢true (sym kind))
-
-pub attacked_is_side : (f : Framework) (e : List ℕ) (side : List AtomLit) → is_assumption_based f ≡ false
-    → IsNumbered f → HoldsOf f e Ad → side ≡ attacked f e → IsSide side
-attacked_is_side (aba f) e side kind ok adm is = absurd (false≢true (sym kind))
-attacked_is_side (af f) e side kind ok adm is = subst IsSide (sym is) (attacked_side f e ok adm.conflict_free.live)
+pub attacked_is_side : (f : Framework) (e : List ℕ) (side : List AtomLit) → IsNumbered f → HoldsOf f e Ad
+    → side ≡ attacked f e → IsSide side
+attacked_is_side f e side ok adm is = subst IsSide (sym is) (attacked_side f e ok (admissible_members f e adm))
 
 pub makes_attacked : (f : Framework) (e : List ℕ) (side : List AtomLit) → HoldsOf f e Ad → side ≡ attacked f e
     → Makes (OnlySide side e) (MadeForIdeal f)
@@ -74,20 +66,15 @@ makes_attacked f e side ok is literals set h = (
   inr (subst (λ (clause : List AtomLit). IsSameClause literals clause) (is ∙ ap (attacked f) (sym h.1)) h.0),
 )
 
-speaks_attacked : (f : Framework) (e : List ℕ) → is_assumption_based f ≡ false → HoldsOf f e Ad
-    → SpeaksOf f (attacked f e)
-speaks_attacked (af f) e kind adm = attacked_speaks f e adm.conflict_free.live
-speaks_attacked (aba f) e kind adm = absurd (false≢true (sym kind))
-
-pub attack_beside : (f : Framework) (e : List ℕ) (side : List AtomLit) → is_assumption_based f ≡ false
-    → side ≡ attacked f e → HoldsOf f e Ad → IsAskableBeside f Ad [] [] [] side
-attack_beside f e side kind made adm = record {
+pub attack_beside : (f : Framework) (e : List ℕ) (side : List AtomLit) → side ≡ attacked f e → HoldsOf f e Ad
+    → IsAskableBeside f Ad [] [] [] side
+attack_beside f e side made adm = record {
   moded = tt;
   in_members = λ a c. absurd (Contains-nil a c);
   out_members = λ a c. absurd (Contains-nil a c);
   ranged_members = λ a c. absurd (Contains-nil a c);
   apart = λ a c. absurd (Contains-nil a c);
-  speaks = subst (SpeaksOf f) (sym made) (speaks_attacked f e kind adm);
+  speaks = subst (SpeaksOf f) (sym made) (attacked_speaks f e (admissible_members f e adm));
 }
 
 -- ---- what is found
@@ -96,24 +83,16 @@ attacked_claim_plain : (f : Framework) (e : List ℕ) → IsPlain (attacked_clai
 attacked_claim_plain f e = plain_mapped (affirmed Ad ∷ []) (attacked f) (e ∷ [])
     (asks_cons (affirmed Ad) [] (λ x. x) asks_nil) (attacked_plain f)
 
-attacks_there : (f : Framework) (log : OracleLog) (e : List ℕ) (n : ℕ) (set : List ℕ)
-    → is_assumption_based f ≡ false → IsAskOf log.sides (attacked f e) n
-    → IsFound f log (goals_of Ad [] [] [] (n ∷ [])) (Set set)
-    → (a : ℕ) × Contains e a × Hits f set a
-attacks_there (aba f) log e n set kind ask makes = absurd (false≢true (sym kind))
-attacks_there (af f) log e n set kind ask makes =
-    attacks_one f e set
-    (asked_true (af f) log (goals_of Ad [] [] [] (n ∷ [])) set n (attacked (af f) e)
-    (asked_there Ad [] [] [] (n ∷ []) n (Contains-head n [] n refl)) ask.number ask.same makes)
-
-found_attack : (f : Framework) (log : OracleLog) (e : List ℕ) (n : ℕ) → is_assumption_based f ≡ false
+found_attack : (f : Framework) (log : OracleLog) (e : List ℕ) (n : ℕ) → IsNumbered f
     → IsAskOf log.sides (attacked f e) n → (found : Found) → IsFound f log (goals_of Ad [] [] [] (n ∷ [])) found
     → Attacks f log e found
-found_attack f log e n kind ask (Set set) makes = (
+found_attack f log e n ok ask (Set set) makes = (
   found_mode f log Ad [] [] [] (n ∷ []) set tt makes,
-  attacks_there f log e n set kind ask makes,
+  attacks_one f e set ok
+      (asked_true f log (goals_of Ad [] [] [] (n ∷ [])) set n (attacked f e)
+      (asked_there Ad [] [] [] (n ∷ []) n (Contains-head n [] n refl)) ask.number ask.same makes),
 )
-found_attack f log e n kind ask (Refuted step) refuted =
+found_attack f log e n ok ask (Refuted step) refuted =
     refutes_claim f log (attacked_claim f e) (goals_of Ad [] [] [] (n ∷ [])) step (attacked_claim_plain f e).goals
     (within_claim log.sides (attacked_claim f e) Ad [] [] [] (n ∷ []) (record {
       has_mode = Contains-head (affirmed Ad) [] (affirmed Ad) refl;
@@ -125,12 +104,12 @@ found_attack f log e n kind ask (Refuted step) refuted =
           (Contains-head (attacked f e) [] (attacked f e) refl) ask);
     })) refuted
 
-pub if_attack : (f : Framework) (log : OracleLog) (e : List ℕ) (side : List AtomLit) → is_assumption_based f ≡ false
+pub if_attack : (f : Framework) (log : OracleLog) (e : List ℕ) (side : List AtomLit) → IsNumbered f
     → side ≡ attacked f e → (r : Result Found Halt) → IfOk r (IsFoundBeside f log Ad [] [] [] side)
     → IfOk r (Attacks f log e)
-if_attack f log e side kind made r h =
+if_attack f log e side ok made r h =
     beside_means f log Ad [] [] [] side (attacked f e) (Attacks f log e) made
-    (λ n found ask k. found_attack f log e n kind ask found k) r h
+    (λ n found ask k. found_attack f log e n ok ask found k) r h
 
 pub if_asked : (f : Framework) (log : OracleLog) (e : List ℕ) (side : List AtomLit) → side ≡ attacked f e
     → (r : Result Found Halt) → IfOk r (IsFoundBeside f log Ad [] [] [] side) → IfOk r (IsAsked f log e)
@@ -165,11 +144,6 @@ hits_set f hit set range struck all adm ranged less more = record {
   );
 }
 
-pub hits_members : (f : Framework) (s : List ℕ) (a : ℕ) → is_assumption_based f ≡ false → IsNumbered f → Hits f s a
-    → Contains (members f) a
-hits_members (af f) s a kind ok k = (ok.form.ends k.0 a k.2).1
-hits_members (aba f) s a kind ok k = absurd (false≢true (sym kind))
-
 -- ---- the search
 
 pub search_begun : (f : Framework) (log : OracleLog) (others : List (List ℕ)) (hit : List ℕ) → others ≡ [] → hit ≡ []
@@ -203,30 +177,25 @@ search_grown f P old new others hit grows h = record {
       let m = h.spent n c in (
         m.0,
         m.1,
-        subst (λ (side : SideClause). Contains side.literals (affirmed (Tail m.0 1)))
+        subst (λ (side : SideClause). Contains side.literals (struck f m.0))
             (sym (grown_side P old new grows n (h.named n c))) m.2,
       );
 }
 
 -- what some of the sets attack are members of the framework
 pub hit_within : (f : Framework) (log : OracleLog) (others : List (List ℕ)) (hit : List ℕ)
-    → is_assumption_based f ≡ false → IsNumbered f → IsSearch f log others hit → IsWithin hit (members f)
-hit_within f log others hit kind ok h a c = let m = (h.hits.members a).0 c in hits_members f m.0 a kind ok m.2
+    → IsNumbered f → IsSearch f log others hit → IsWithin hit (members f)
+hit_within f log others hit ok h a c = let m = (h.hits.members a).0 c in attacked_member f m.0 a ok m.2
 
-attacked_literal : (f : Framework) (e : List ℕ) (a : ℕ) → Contains e a → Contains (attacked f e) (affirmed (Tail a 1))
-attacked_literal (af f) e a c = Contains-mapped (λ x. affirmed (Tail x 1)) e a c
-attacked_literal (aba f) e a c = Contains-mapped (λ x. affirmed (Tail x 1)) e a c
+struck_number : (f : Framework) (a x : ℕ) → struck f a ≡ struck f x → a ≡ x
+struck_number (af f) a x e = ap (λ (l : AtomLit). slice_index_or (numbers_of l.atom) 0 0) e
+struck_number (aba f) a x e = ap (λ (l : AtomLit). slice_index_or (numbers_of l.atom) 1 0) e
 
-tail_number : (a x : ℕ) → affirmed (Tail a 1) ≡ affirmed (Tail x 1) → a ≡ x
-tail_number a x e = ap (λ (l : AtomLit). slice_index_or (numbers_of l.atom) 0 0) e
-
-attacked_form : (f : Framework) (e : List ℕ) (a : ℕ) → Contains (attacked f e) (affirmed (Tail a 1)) → Contains e a
-attacked_form (af f) e a c =
-    let m = Contains-from_mapped (λ x. affirmed (Tail x 1)) e (affirmed (Tail a 1)) c in
-    subst (λ (x : ℕ). Contains e x) (tail_number m.0 a m.2) m.1
-attacked_form (aba f) e a c =
-    let m = Contains-from_mapped (λ x. affirmed (Tail x 1)) e (affirmed (Tail a 1)) c in
-    subst (λ (x : ℕ). Contains e x) (tail_number m.0 a m.2) m.1
+-- the number in a literal of the side clause that a set is attacked is a member
+struck_member : (f : Framework) (e : List ℕ) (a : ℕ) → Contains (attacked f e) (struck f a) → Contains e a
+struck_member f e a c =
+    let m = attacked_form f e (struck f a) c in
+    subst (λ (x : ℕ). Contains e x) (struck_number f m.0 a m.2) m.1
 
 -- what a set that is free of the numbers attacks is no member of it
 free_of_own : (f : Framework) (hit e : List ℕ) → IsFree f hit e → (a : ℕ) → Contains e a → Hits f e a → ⊥
@@ -293,7 +262,7 @@ search_more f log others middle hit mid e other more h kept free adm attack ask 
   asks = h.asks ++ ask.0 ∷ [];
   apart = apart_pushed h.asks ask.0 h.apart
       (λ c. let m = h.spent ask.0 c in
-      free.apart m.0 (attacked_form f e m.0 (ask.1.same.there (affirmed (Tail m.0 1)) m.2)) (kept.sub m.0 m.1));
+      free.apart m.0 (struck_member f e m.0 (ask.1.same.there (struck f m.0) m.2)) (kept.sub m.0 m.1));
   count = omega (
     arith,
     h.count,
@@ -309,8 +278,8 @@ search_more f log others middle hit mid e other more h kept free adm attack ask 
       (λ k. (
         attack.0,
         (all.members attack.0).1 (inr attack.2),
-        subst (λ (m : ℕ). Contains (side_at log.sides m).literals (affirmed (Tail attack.0 1))) (only_one ask.0 n k)
-            (ask.1.same.back (affirmed (Tail attack.0 1)) (attacked_literal f e attack.0 attack.1)),
+        subst (λ (m : ℕ). Contains (side_at log.sides m).literals (struck f attack.0)) (only_one ask.0 n k)
+            (ask.1.same.back (struck f attack.0) (Contains-mapped (struck f) e attack.0 attack.1)),
       ))
       (Contains-append_cases h.asks (ask.0 ∷ []) n c);
 }
@@ -331,42 +300,42 @@ within_bound f P old new others hit m few h grows = omega (arith, few, few_sets 
 
 -- ---- the ideal set
 
-hit_list : (f : Framework) (log : OracleLog) (others : List (List ℕ)) (hit : List ℕ) → is_assumption_based f ≡ false
-    → IsNumbered f → IsSearch f log others hit → hit ≡ hit_by_any f others
-hit_list (aba f) log others hit kind ok h = absurd (false≢true (sym kind))
-hit_list (af f) log others hit kind ok h =
-    same_rising hit (hit_by_any (af f) others) h.hits.rises
-    (IsStrictlyIncreasing-filter (λ a. list_any (λ t. hits (af f) t a) others) f.live ok.form.live_rises)
+members_rise : (f : Framework) → IsNumbered f → IsStrictlyIncreasing (members f)
+members_rise (af f) ok = ok.form.live_rises
+members_rise (aba f) ok = ok.form.assumptions_rise
+
+hit_list : (f : Framework) (log : OracleLog) (others : List (List ℕ)) (hit : List ℕ) → IsNumbered f
+    → IsSearch f log others hit → hit ≡ hit_by_any f others
+hit_list f log others hit ok h =
+    same_rising hit (hit_by_any f others) h.hits.rises
+    (IsStrictlyIncreasing-filter (λ a. list_any (λ t. hits f t a) others) (members f) (members_rise f ok))
     (λ a. (
-      λ c. (in_hit_list f others a ok.form).1 ((h.hits.members a).0 c),
-      λ c. (h.hits.members a).1 ((in_hit_list f others a ok.form).0 c),
+      λ c. (in_hit_list f others a ok).1 ((h.hits.members a).0 c),
+      λ c. (h.hits.members a).1 ((in_hit_list f others a ok).0 c),
     ))
 
 shown_set : (f : Framework) (log : OracleLog) (e : List ℕ) (others : List (List ℕ)) (first second : ℕ)
-    → is_assumption_based f ≡ false → IsKept f log → HoldsOf f e Ad
-    → ((t : List ℕ) → Contains others t → HoldsOf f t Ad)
+    → IsKept f log → HoldsOf f e Ad → ((t : List ℕ) → Contains others t → HoldsOf f t Ad)
     → Refutes f log (attacked_claim f e) first → Refutes f log (free_claim f (hit_by_any f others) e) second
     → IsExtension f Ideal e
-shown_set (aba f) log e others first second kind kept adm each one two = absurd (false≢true (sym kind))
-shown_set (af f) log e others first second kind kept adm each one two =
+shown_set f log e others first second kept adm each one two =
     shown_ideal f e others kept.numbered adm each
-    (claim_excluded (af f) log (attacked_claim (af f) e) first kept.form (attacked_claim_plain (af f) e) one)
-    (claim_excluded (af f) log (free_claim (af f) (hit_by_any (af f) others) e) second kept.form
-    (free_plain (af f) (hit_by_any (af f) others) e) two)
+    (claim_excluded f log (attacked_claim f e) first kept.form (attacked_claim_plain f e) one)
+    (claim_excluded f log (free_claim f (hit_by_any f others) e) second kept.form
+    (free_plain f (hit_by_any f others) e) two)
 
 -- an unattacked set without what the others attack, round which nothing larger is without it
-pub is_ideal : (f g : Framework) (log : OracleLog) (found : IdealSet) (hit : List ℕ) → is_assumption_based f ≡ false
-    → g ≡ f → IsKept g log → IsSearch f log found.others hit → IsFree f hit found.set
+pub is_ideal : (f g : Framework) (log : OracleLog) (found : IdealSet) (hit : List ℕ) → g ≡ f → IsKept g log → IsSearch f log found.others hit → IsFree f hit found.set
     → Refutes f log (free_claim f hit found.set) found.largest
     → Refutes f log (attacked_claim f found.set) found.unattacked → IsIdealFound f log found
-is_ideal f g log found hit kind same was h free two one =
+is_ideal f g log found hit same was h free two one =
     let kept = subst (λ (x : Framework). IsKept x log) same was in
     let largest : Refutes f log (free_claim f (hit_by_any f found.others) found.set) found.largest =
     subst (λ (xs : List ℕ). Refutes f log (free_claim f xs found.set) found.largest)
-    (hit_list f log found.others hit kind kept.numbered h) two in
+    (hit_list f log found.others hit kept.numbered h) two in
     record {
-      ideal = shown_set f log found.set found.others found.unattacked found.largest kind kept free.admissible
-          h.admissible one largest;
+      ideal = shown_set f log found.set found.others found.unattacked found.largest kept free.admissible h.admissible
+          one largest;
       admissible = free.admissible;
       others = h.admissible;
       unattacked = one;
@@ -499,20 +468,20 @@ fewer_beside f old new e other left more free attack cut sub live =
 
 -- a grown set was cut, and pruned
 cut_pruned : (f : Framework) (log after : OracleLog) (old mid new : Attackers) (e other left start : List ℕ)
-    → is_assumption_based f ≡ false → IsNumbered f → IsFree f old.hit e → ((a : ℕ) × Contains e a × Hits f other a)
+    → IsNumbered f → IsFree f old.hit e → ((a : ℕ) × Contains e a × Hits f other a)
     → IsCutBeside f e other old mid left → IsPruned f after mid new start → IsCutDown f after old new start
-cut_pruned f log after old mid new e other left start kind ok free attack cut pruned = record {
+cut_pruned f log after old mid new e other left start ok free attack cut pruned = record {
   searched = pruned.searched;
   free = pruned.free;
   more = omega (arith, two_more f e other left old mid cut, pruned.more);
   fewer = fewer_beside f old mid e other left new.hit free attack cut pruned.hit
-      (hit_within f after new.sets new.hit kind ok pruned.searched);
+      (hit_within f after new.sets new.hit ok pruned.searched);
 }
 
 pub if_cut : (f : Framework) (log after : OracleLog) (old mid new : Attackers) (e other left : List ℕ)
-    (r : Result (List ℕ) Halt) → is_assumption_based f ≡ false → IsNumbered f → IsFree f old.hit e
+    (r : Result (List ℕ) Halt) → IsNumbered f → IsFree f old.hit e
     → ((a : ℕ) × Contains e a × Hits f other a) → IsCutBeside f e other old mid left
     → IfOk r (IsPruned f after mid new) → IfOk r (IsCutDown f after old new)
-if_cut f log after old mid new e other left (Ok start) kind ok free attack cut h =
-    cut_pruned f log after old mid new e other left start kind ok free attack cut h
-if_cut f log after old mid new e other left (Err halt) kind ok free attack cut h = h
+if_cut f log after old mid new e other left (Ok start) ok free attack cut h =
+    cut_pruned f log after old mid new e other left start ok free attack cut h
+if_cut f log after old mid new e other left (Err halt) ok free attack cut h = h

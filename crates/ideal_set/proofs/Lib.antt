@@ -1,5 +1,5 @@
 pub mod FreeLemmas
-pub mod PictureLemmas
+pub mod AssumptionLemmas
 pub mod AttackerLemmas
 pub mod IdealLemmas
 pub mod RoundLemmas

@@ -7,7 +7,8 @@ use Rattle.semantics.proofs.Decided.{decide_attacked, decide_both, decide_not, d
 use Rattle.semantics.proofs.Existence.{preferred_round}
 use Rattle.semantics.proofs.Extensions.{preferred_complete}
 use Rattle.std.proofs.lemmas.Bool.{cases_eq}
-use Rattle.ideal_set.specs.Parts.{IsLargestPart}
+use Rattle.semantics.specs.Frameworks.{af}
+use Rattle.oracle_face.specs.Parts.{IsLargestPart}
 use Rattle.ideal_set.specs.Rounds.{IsRound}
 
 -- the members that are left are those that the grounded set doesn't attack
@@ -97,7 +98,7 @@ never_struck h g t grounded ok a c at =
 
 pub largest_is : (f round : Af) (set without left g part : List ℕ) → IsAf f → IsConflictFree f set
     → IsSetOf (λ x. Contains set x × ¬ Contains without x) left → IsRound f left round → IsGrounded round g
-    → IsUnstruck left round g part → IsLargestPart f set without part
+    → IsUnstruck left round g part → IsLargestPart (af f) set without part
 largest_is f round set without left g part form free less is grounded has =
     let inside : IsWithin left set = λ a c. ((less.members a).0 c).0 in
     record {

@@ -2,26 +2,25 @@
 --
 -- Source: P. M. Dung, P. Mancarella, F. Toni, "Computing ideal sceptical argumentation", Artificial Intelligence 171
 -- (2007): an admissible set that no admissible set attacks lies in every preferred set.
-use Rattle.std.specs.Prelude.{◌≡◌, ◌≢◌, ◌↔◌, ◌⊎◌, ◌<◌, ◌≤◌, ◌+◌, ◌*◌, ℕ, not, List, [], ◌∷◌, ◌++◌, length, filter}
+use Rattle.std.specs.Prelude.{◌≡◌, ◌⊎◌, ◌<◌, ◌≤◌, ◌+◌, ◌*◌, ℕ, not, List, [], ◌∷◌, ◌++◌, length, filter}
 use Rattle.std.specs.Prelude.{Contains, Result, Ok}
 use Rattle.lists.specs.Members.{IsSetOf, IsWithin}
 use Rattle.plain_lits.specs.declared.halt.Halt.{Halt}
-use Rattle.semantics.specs.Framework.{Af, Attacks as AttacksIn, IsAttackedBy}
-use Rattle.semantics.specs.Frameworks.{Framework, af, aba}
-use Rattle.semantics.specs.AbaFrameworks.{AttacksAssumption}
-use Rattle.meaning_atoms.specs.declared.atom.Atom.TheVariants.{Ad, Tail}
+use Rattle.semantics.specs.Collectives.{AttacksMember}
+use Rattle.semantics.specs.Frameworks.{Framework}
+use Rattle.aba_laws.specs.AfNotions.{collective_for}
+use Rattle.meaning_atoms.specs.declared.atom.Atom.TheVariants.{Ad}
 use Rattle.meaning_atoms.specs.Literals.{affirmed}
 use Rattle.meaning_atoms.specs.Worlds.{HoldsOf}
 use Rattle.iccma_tasks.specs.declared.task.Semantics.TheVariants.{Ideal}
 use Rattle.certificate_claims.specs.Claims.{claim_of}
 use Rattle.certificate_claims.specs.Refutations.{Claim}
 use Rattle.certificate_claims.specs.Rights.{IsExtension}
-use Rattle.certificate_claims.specs.SetLiterals.{are_in, are_out, attacked, has, hit_by_any, members, outside}
+use Rattle.certificate_claims.specs.SetLiterals.{are_in, are_out, attacked, has, hit_by_any, members, outside, struck}
 use Rattle.oracle_face.specs.declared.face.Found.{Found}
 use Rattle.oracle_face.specs.declared.face.Found.TheVariants.{Set, Refuted}
 use Rattle.oracle_face.specs.Goals.{Refutes}
 use Rattle.oracle_face.specs.Growing.{Making}
-use Rattle.oracle_face.specs.Kinds.{IsRanged}
 use Rattle.oracle_face.specs.Logs.{IsNumberOf, IsSameClause, OracleLog, side_at}
 use Rattle.goal_lists.specs.Asking.{AreApart}
 use Rattle.goal_lists.specs.Sides.{IsAskOf}
@@ -38,8 +37,7 @@ MadeForIdeal f literals set =
 
 -- the set attacks the number
 abbrev pub Hits : Framework → List ℕ → ℕ → Type 0
-Hits (af f) s a = IsAttackedBy f s a
-Hits (aba f) s a = AttacksAssumption f s a
+Hits f s a = (collective_for f).attacks s a
 
 -- some set of the list attacks the number
 abbrev pub IsHit : Framework → List (List ℕ) → ℕ → Type 0
@@ -75,7 +73,7 @@ pub record IsLargestFree (f : Framework) (log : OracleLog) (hit : List ℕ) (fre
 
 -- an admissible set that attacks a member, or the step that refutes that there is one
 abbrev pub Attacks : Framework → OracleLog → List ℕ → Found → Type 0
-Attacks f log e (Set found) = HoldsOf f found Ad × ((a : ℕ) × Contains e a × Hits f found a)
+Attacks f log e (Set found) = HoldsOf f found Ad × AttacksMember (collective_for f) found e
 Attacks f log e (Refuted step) = Refutes f log (attacked_claim f e) step
 
 -- the log has the side clause that the set is attacked
@@ -94,24 +92,10 @@ pub record IsSearch (f : Framework) (log : OracleLog) (others : List (List ℕ))
   pub count : length others ≤ 2 * length asks
   pub named : (n : ℕ) → Contains asks n → IsNumberOf log.sides n
   pub spent : (n : ℕ) → Contains asks n
-      → (a : ℕ) × Contains hit a × Contains (side_at log.sides n).literals (affirmed (Tail a 1))
+      → (a : ℕ) × Contains hit a × Contains (side_at log.sides n).literals (struck f a)
 
 abbrev pub AreAttackers : Framework → OracleLog → Attackers → Type 0
 AreAttackers f log found = IsSearch f log found.sets found.hit
-
--- the list has gained the pairs of the number and each other number in its range, and nothing else
-abbrev pub GainsTargets : Framework → ℕ → List (ℕ × ℕ) → List (ℕ × ℕ) → Type 0
-GainsTargets f b old new =
-    (p : ℕ × ℕ) → Contains new p ↔ (Contains old p ⊎ ((p.0 ≡ b) × IsRanged f (b ∷ []) p.1 × (p.1 ≢ b)))
-
--- the framework without attacks of an argument on itself
-pub record IsPictureOf (f plain : Af) : Type 0 where
-  pub live : plain.live ≡ f.live
-  pub attacks : (b a : ℕ) → AttacksIn plain b a ↔ (AttacksIn f b a × (b ≢ a))
-
-abbrev pub IsPicture : Framework → Af → Type 0
-IsPicture (af f) plain = IsPictureOf f plain
-IsPicture (aba f) plain = ⊥
 
 -- how many members none of the sets attacks
 abbrev pub unhit : Framework → List ℕ → ℕ

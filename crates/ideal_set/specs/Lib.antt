@@ -1,3 +1,2 @@
 pub mod Ideals
-pub mod Parts
 pub mod Rounds

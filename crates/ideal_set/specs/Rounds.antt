@@ -1,6 +1,7 @@
--- The attacks round a set.
+-- The attacks round a set, and what a set defends of itself.
 use Rattle.std.specs.Prelude.{◌≡◌, ◌↔◌, ◌⊎◌, ℕ, List, Contains}
 use Rattle.semantics.specs.Framework.{Af}
+use Rattle.semantics.specs.Collectives.{Collective, IsDefended}
 
 -- an attack that a member of the set makes or suffers
 abbrev pub HasEndIn : Af → List ℕ → ℕ × ℕ → Type 0
@@ -15,3 +16,7 @@ GainsAttacksOf f a old new =
 pub record IsRound (f : Af) (s : List ℕ) (round : Af) : Type 0 where
   pub live : round.live ≡ f.live
   pub attacks : (p : ℕ × ℕ) → Contains round.attacks p ↔ HasEndIn f s p
+
+-- a member that the set does not defend
+abbrev pub IsUndefendedMember : Collective → List ℕ → ℕ → Type 0
+IsUndefendedMember d s a = Contains s a × (IsDefended d s a → ⊥)

@@ -1,17 +1,14 @@
 //! Admissible sets that attack a set, and what is left of the set without what they attack.
 
-ghost use Rattle.std.specs.Prelude.{◌≡◌, ◌⊎◌, false, Contains, IfOk, OnOk};
+ghost use Rattle.std.specs.Prelude.{◌⊎◌, Contains, IfOk, OnOk};
 ghost use Rattle.lists.specs.Members.{IsSetOf};
 ghost use Rattle.meaning_atoms.specs.declared.atom.Atom.TheVariants.{Ad};
 ghost use Rattle.meaning_atoms.specs.Worlds.{HoldsOf};
 ghost use Rattle.oracle_face.specs.Growing.{closes, halt_of};
-ghost use Rattle.oracle_face.specs.Kinds.{is_assumption_based};
-ghost use Rattle.ideal_set.specs.Ideals.{AreAttackers, Attacks, Hits, IsAsked, IsCut, IsCutBeside, IsFree, IsPicture};
+ghost use Rattle.ideal_set.specs.Ideals.{AreAttackers, Attacks, Hits, IsAsked, IsCut, IsCutBeside, IsFree};
 ghost use Rattle.ideal_set.specs.Ideals.{IsPruned, Keeps, MadeForIdeal};
 ghost use Rattle.goal_lists.specs.Runs.{Ran};
 
-use crate::largest_part;
-use dung_notions::AfPlain;
 use goal_lists::{Wanted, attacked, search_beside};
 use lists::{Items, Memory};
 use meaning_atoms::Atom;
@@ -33,15 +30,14 @@ pub(crate) fn attacker<O: Oracle>(
     budget: &mut Budget,
     set: &NumSet,
 ) -> Result<Found, Halt>
-    requires kind { is_assumption_based (O.framework oracle.old) ≡ false }
-    requires holds { HoldsOf (O.framework oracle.old) set.now Ad }
+    requires { HoldsOf (O.framework oracle.old) set.now Ad }
     ensures attacks { IfOk result (Attacks (O.framework oracle.old) (O.log oracle.new) set.now) }
     ensures asked { IfOk result (IsAsked (O.framework oracle.old) (O.log oracle.new) set.now) }
     ensures ran { Ran O.Oracle MadeForIdeal (closes result) oracle.old oracle.new budget.old budget.new
         (halt_of result) }
 {
     let _members = oracle.members();
-    let side = attacked(alloc, set)?;
+    let side = attacked(alloc, oracle.is_aba(), set)?;
     let wanted = Wanted {
         ins: &[],
         outs: &[],
@@ -86,18 +82,16 @@ fn keep<O: Oracle>(
 fn cut<O: Oracle>(
     alloc: Global,
     oracle: &O,
-    plain: &AfPlain,
     found: &mut Attackers,
     set: &NumSet,
     other: NumSet,
 ) -> Result<NumSet, Memory>
-    requires plain { IsPicture (O.framework oracle.now) plain.now }
     requires set { HoldsOf (O.framework oracle.now) set.now Ad }
     requires other { HoldsOf (O.framework oracle.now) other Ad }
     ensures { IfOk result (IsCut (O.framework oracle.now) other found.old found.new) }
 {
     keep(alloc, oracle, found, other)?;
-    largest_part(alloc, plain, set, &found.hit)
+    oracle.admissible_part(alloc, set, &found.hit)
 }
 
 /// Takes a set that was grown to its end, and an admissible one that attacks it, as `cut` does. The ideal set lies in
@@ -106,18 +100,16 @@ fn cut<O: Oracle>(
 pub(crate) fn cut_grown<O: Oracle>(
     alloc: Global,
     oracle: &O,
-    plain: &AfPlain,
     found: &mut Attackers,
     set: &NumSet,
     other: NumSet,
 ) -> Result<NumSet, Memory>
-    requires plain { IsPicture (O.framework oracle.now) plain.now }
     requires set { HoldsOf (O.framework oracle.now) set.now Ad }
     requires other { HoldsOf (O.framework oracle.now) other Ad }
     ensures { IfOk result (IsCutBeside (O.framework oracle.now) set.now other found.old found.new) }
 {
     keep(alloc, oracle, found, set.copy(alloc)?)?;
-    cut(alloc, oracle, plain, found, set, other)
+    cut(alloc, oracle, found, set, other)
 }
 
 /// What is left of a set when no admissible set attacks it any more. Each turn asks for one that does; so it asks
@@ -126,12 +118,9 @@ pub(crate) fn prune<O: Oracle>(
     alloc: Global,
     oracle: &mut O,
     budget: &mut Budget,
-    plain: &AfPlain,
     found: &mut Attackers,
     set: &NumSet,
 ) -> Result<NumSet, Halt>
-    requires kind { is_assumption_based (O.framework oracle.old) ≡ false }
-    requires plain { IsPicture (O.framework oracle.old) plain.now }
     requires found { AreAttackers (O.framework oracle.old) (O.log oracle.old) found.old }
     requires set { IsFree (O.framework oracle.old) found.old.hit set.now }
     ensures pruned { IfOk result (IsPruned (O.framework oracle.old) (O.log oracle.new) found.old found.new) }
@@ -141,7 +130,7 @@ pub(crate) fn prune<O: Oracle>(
     let mut part = set.copy(alloc)?;
     loop {
         match attacker(alloc, oracle, budget, &part)? {
-            Found::Set(other) => part = cut(alloc, oracle, plain, found, &part, other)?,
+            Found::Set(other) => part = cut(alloc, oracle, found, &part, other)?,
             Found::Refuted(_step) => return Ok(part),
         }
     }

@@ -3,7 +3,8 @@
 ghost use Rattle.std.specs.Prelude.{◌≡◌, ◌↔◌, ℕ, Contains, IfOk, OnOk, map};
 ghost use Rattle.attack_index.specs.PairOrder.{reversed};
 ghost use Rattle.semantics.specs.Framework.{IsConflictFree};
-ghost use Rattle.ideal_set.specs.Parts.{IsLargestPart};
+ghost use Rattle.semantics.specs.Frameworks.{af};
+ghost use Rattle.oracle_face.specs.Parts.{IsLargestPart};
 ghost use Rattle.ideal_set.specs.Rounds.{GainsAttacksOf, HasEndIn, IsRound};
 
 use dung_notions::AfPlain;
@@ -64,7 +65,7 @@ pub fn largest_part(
     without: &NumSet,
 ) -> Result<NumSet, Memory>
     requires { IsConflictFree plain.now set.now }
-    ensures { IfOk result (IsLargestPart plain.now set.now without.now) }
+    ensures { IfOk result (IsLargestPart (af plain.now) set.now without.now) }
 {
     let _live = plain.live();
     let left = set.minus(alloc, without)?;

@@ -1,15 +1,13 @@
 //! The search for the ideal set.
 
-ghost use Rattle.std.specs.Prelude.{◌≡◌, false, IfOk};
+ghost use Rattle.std.specs.Prelude.{IfOk};
 ghost use Rattle.oracle_face.specs.Growing.{halt_of};
-ghost use Rattle.oracle_face.specs.Kinds.{is_assumption_based};
 ghost use Rattle.ideal_set.specs.Ideals.{AreAttackers, Attacks, HasTurned, IsAsked, IsCutDown, IsFree, IsIdealFound};
 ghost use Rattle.ideal_set.specs.Ideals.{MadeForIdeal, turn_closes};
 ghost use Rattle.goal_lists.specs.Runs.{Ran, RanInAll};
 
 use crate::attackers::{Attackers, attacker, cut_grown, prune};
 use crate::free::{Free, largest_free};
-use crate::picture::picture;
 use lists::Items;
 use oracle_face::{Budget, Found, Halt, Oracle, StepId};
 use set_lists::NumSet;
@@ -34,7 +32,7 @@ enum Turn {
     AttackedBy(Free, NumSet),
 }
 
-/// The ideal set of an abstract framework. An admissible set is grown to its end. Where admissible sets attack it, it
+/// The ideal set. An admissible set is grown to its end. Where admissible sets attack it, it
 /// is cut down until none attacks what is left, and grown anew without what they and the grown set attack; where none
 /// does, it is ideal. With k such sets and n times that a set was cut down and grown, it asks k + n + 1 times for one,
 /// besides what it asks to grow.
@@ -43,7 +41,6 @@ pub fn ideal<O: Oracle>(
     oracle: &mut O,
     budget: &mut Budget,
 ) -> Result<IdealSet, Halt>
-    requires { is_assumption_based (O.framework oracle.old) ≡ false }
     ensures ideal { IfOk result (IsIdealFound (O.framework oracle.old) (O.log oracle.new)) }
     ensures ran { RanInAll O.Oracle MadeForIdeal oracle.old oracle.new budget.old budget.new (halt_of result) }
 {
@@ -78,7 +75,6 @@ fn take_turn<O: Oracle>(
     found: &Attackers,
     start: &NumSet,
 ) -> Result<Turn, Halt>
-    requires kind { is_assumption_based (O.framework oracle.old) ≡ false }
     requires found { AreAttackers (O.framework oracle.old) (O.log oracle.old) found.now }
     requires start { IsFree (O.framework oracle.old) found.now.hit start.now }
     ensures turned { IfOk result (HasTurned (O.framework oracle.old) (O.log oracle.new) found.now) }
@@ -103,7 +99,6 @@ fn cut_down<O: Oracle>(
     set: &NumSet,
     other: NumSet,
 ) -> Result<NumSet, Halt>
-    requires kind { is_assumption_based (O.framework oracle.old) ≡ false }
     requires found { AreAttackers (O.framework oracle.old) (O.log oracle.old) found.old }
     requires set { IsFree (O.framework oracle.old) found.old.hit set.now }
     requires attacks { Attacks (O.framework oracle.old) (O.log oracle.old) set.now (Found.Set other) }
@@ -112,7 +107,6 @@ fn cut_down<O: Oracle>(
     ensures ran { Ran O.Oracle MadeForIdeal 1 oracle.old oracle.new budget.old budget.new (halt_of result) }
 {
     let _members = oracle.members();
-    let plain = picture(alloc, oracle)?;
-    let left = cut_grown(alloc, oracle, &plain, found, set, other)?;
-    prune(alloc, oracle, budget, &plain, found, &left)
+    let left = cut_grown(alloc, oracle, found, set, other)?;
+    prune(alloc, oracle, budget, found, &left)
 }

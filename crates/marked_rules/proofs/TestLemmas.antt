@@ -4,7 +4,7 @@ use Rattle.std.specs.Prelude.{◌↔◌, Contains, IsTrue}
 use Rattle.std.proofs.lemmas.Bool.{eqb-true}
 use Rattle.std.proofs.lemmas.List.{take_more, take_all}
 use Rattle.std.proofs.lemmas.List.Elements.{Contains-push_cases, Contains-append_left, Contains-append_right}
-use Rattle.lists.specs.Members.{IsWithin}
+use Rattle.lists.specs.Members.{IsSetOf, IsWithin}
 use Rattle.lists.proofs.Filters.{Contains-filter}
 use Rattle.lists.proofs.Membership.{Contains-nil, Contains-head}
 use Rattle.lists.proofs.Walks.{WalkedAll, all_members}
@@ -105,6 +105,27 @@ module _ (f : Aba) (u : RuleUses) (of : AreOf f u) where
         λ st. test.1 (λ a live quiet. ⊎_elim (λ here. here)
             (λ out. absurd ((quiet_is s c has a).0 quiet (st.attacks_outside a live out))) (decide_member s a)),
       )
+
+  -- the assumptions beside the rest are those that the set attacks
+  pub attacked_is : (s kept rest left : List ℕ) (c : Closing) → HasDerived f u s c
+      → ((x : ℕ) → Contains kept x ↔ (Contains f.assumptions x × IsSpared f u c x)) → IsSetOf (Contains kept) rest
+      → IsSetOf (λ x. Contains f.assumptions x × ¬ Contains rest x) left → IsSetOf (AttacksAssumption f s) left
+  attacked_is s kept rest left c has keeps same less =
+      let lawful : IsLawful (collective_of f) = aba_lawful f in
+      record {
+        rises = less.rises;
+        members = λ x. (
+          λ k. let w = (less.members x).0 k in
+              ⊎_elim (λ hit. hit)
+              (λ none. absurd (w.1 ((same.members x).1 ((keeps x).1
+              (w.0, record { assumed = w.0; quiet = (quiet_is s c has x).1 none })))))
+              (lawful.decided s x),
+          λ at. (less.members x).1 (
+            (of.form.form.contraries_are x at.contrary at.is).0,
+            λ k. (quiet_is s c has x).0 ((keeps x).0 ((same.members x).0 k)).1.quiet at,
+          ),
+        );
+      }
 
   -- what a set derives that is no member
   pub derives_by : (s : List ℕ) (c : Closing) (x : ℕ) (r : Bool) → (Contains s x → ⊥) → HasDerived f u s c

@@ -4,7 +4,8 @@
 //! assumptions.
 
 ghost use Rattle.std.specs.Prelude.{◌↔◌, ℕ, Contains, IfOk, IsTrue, OnOk};
-ghost use Rattle.semantics.specs.AbaFrameworks.{IsInTheory, collective_of};
+ghost use Rattle.lists.specs.Members.{IsSetOf};
+ghost use Rattle.semantics.specs.AbaFrameworks.{AttacksAssumption, IsInTheory, collective_of};
 ghost use Rattle.semantics.specs.Collectives.{IsAdmissible, IsComplete, IsConflictFree, IsStable};
 ghost use Rattle.aba_notions.specs.Closing.{IsMarked};
 ghost use Rattle.marked_rules.specs.Search.{HasDerived, IsUsesOf, derived_in};
@@ -120,6 +121,27 @@ pub fn is_stable(
     let assumptions = plain.assumptions().as_slice();
     let covered = are_covered(uses, &marks.closing, set, assumptions);
     Ok(covered)
+}
+
+/// The assumptions that a set attacks. The time is linear in the assumptions and their contraries, in what follows from
+/// the set, and in the uses of this.
+pub fn attacked_by(
+    alloc: Global,
+    plain: &AbaPlain,
+    uses: &RuleUses,
+    set: &NumSet,
+    marks: &mut SetMarks,
+) -> Result<NumSet, Memory>
+    requires { IsUsesOf plain.now uses.now }
+    ensures { IfOk result (IsSetOf (AttacksAssumption plain.now set.now)) }
+{
+    uses.close(alloc, plain, &mut marks.closing, set.as_slice())?;
+    let assumptions = plain.assumptions();
+    let numbers = assumptions.as_slice();
+    keep_spared(plain, uses, &marks.closing, numbers, &mut marks.kept)?;
+    let rest = NumSet::from_slice(alloc, &marks.kept)?;
+    let attacked = assumptions.minus(alloc, &rest)?;
+    Ok(attacked)
 }
 
 /// Whether a set derives an atom, in time linear in what follows from the set and in the uses of this.

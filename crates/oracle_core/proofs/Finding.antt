@@ -10,7 +10,7 @@ use Rattle.plain_lits.proofs.HintCheckLemmas.{Contains-mapped, taken_sound}
 use Rattle.semantics.proofs.Decided.{Decided, decide_contains}
 use Rattle.semantics.specs.Frameworks.{Framework, af, aba}
 use Rattle.meaning_atoms.specs.declared.atom.Atom.{Atom}
-use Rattle.meaning_atoms.specs.declared.atom.Atom.TheVariants.{Member, Tail, Range, Cf, Ad, Co, St, Der, Ask}
+use Rattle.meaning_atoms.specs.declared.atom.Atom.TheVariants.{Member, Tail, Range, Cf, Ad, Co, St, Der, Hit, Ask}
 use Rattle.meaning_atoms.specs.declared.atom.AtomLit.{AtomLit}
 use Rattle.meaning_atoms.specs.declared.atom.Closure.{Closure}
 use Rattle.meaning_atoms.specs.declared.atom.Closure.TheVariants.{Own, Rest}
@@ -244,12 +244,14 @@ tells_read (af f) (Range a) true tells = tells
 tells_read (af f) (Range a) false tells = absurd tells
 tells_read (af f) (Tail a i) true tells = tells
 tells_read (af f) (Tail a i) false tells = absurd tells
+tells_read (af f) (Hit Own a i) true tells = tt
 tells_read (af f) _ positive tells = absurd tells
 tells_read (aba f) (Member a) positive tells = tells
 tells_read (aba f) (Range a) true tells = tt
 tells_read (aba f) (Range a) false tells = absurd tells
 tells_read (aba f) (Tail a i) true tells = tt
 tells_read (aba f) (Tail a i) false tells = absurd tells
+tells_read (aba f) (Hit Own a i) true tells = tells
 tells_read (aba f) _ positive tells = absurd tells
 
 mode_read : (f : Framework) (mode : Atom) → IsMode mode → IsReadBack f mode true
@@ -321,6 +323,8 @@ module _ (f : Framework) (log : OracleLog) (goals values : List AtomLit) (set : 
       tells_holds (record { atom = Range a; positive = positive }) goal there
   goal_holds (Tail a i) positive goal there =
       tells_holds (record { atom = Tail a i; positive = positive }) goal there
+  goal_holds (Hit k a i) positive goal there =
+      tells_holds (record { atom = Hit k a i; positive = positive }) goal there
   goal_holds (Der k x) positive goal there =
       back.says (record { atom = Der k x; positive = positive }) there (atom_read f k x positive goal)
   goal_holds _ positive goal there = absurd goal

@@ -8,7 +8,7 @@ ghost use Rattle.hinted_log.specs.declared.log.TheConstants.{MAX_STEPS};
 ghost use Rattle.atom_solver.specs.States.{empty_log};
 ghost use Rattle.oracle_core.specs.Answering.{told_origin};
 
-use crate::parts::{EngineParts, is_aba, range_of};
+use crate::parts::{EngineParts, admissible_part_of, is_aba, range_of};
 use aba_notions::AbaPlain;
 use atom_solver::Origin;
 use certificate_making::{ReadLog, StepOrigin};
@@ -161,6 +161,15 @@ impl Oracle for Engine {
 
     fn range(&self, alloc: Global, set: &NumSet) -> Result<NumSet, Memory> {
         range_of(alloc, &self.parts.framework, set)
+    }
+
+    fn admissible_part(
+        &self,
+        alloc: Global,
+        set: &NumSet,
+        without: &NumSet,
+    ) -> Result<NumSet, Memory> {
+        admissible_part_of(alloc, &self.parts.framework, set, without)
     }
 
     fn accepts(&self, alloc: Global, goal: u32, set: &NumSet) -> Result<bool, Memory> {

@@ -4,7 +4,9 @@ ghost use Rattle.std.specs.Prelude.{◌≡◌, ◌≢◌, ℕ, ◌≤◌, AllPai
 ghost use Rattle.std.specs.Prelude.{true};
 ghost use Rattle.plain_lits.specs.HintCheck.{IsTautology};
 ghost use Rattle.plain_lits.specs.Units.{Units};
+ghost use Rattle.meaning_atoms.specs.declared.atom.Atom.TheVariants.{Cf};
 ghost use Rattle.meaning_atoms.specs.Literals.{negated};
+ghost use Rattle.meaning_atoms.specs.Worlds.{HoldsOf};
 ghost use Rattle.certificate_claims.specs.SetLiterals as set_literals;
 ghost use Rattle.edit_rules.specs.Kinds.{framework_of};
 ghost use Rattle.hinted_log.specs.declared.log.TheConstants.{MAX_STEPS};
@@ -23,6 +25,7 @@ ghost use Rattle.oracle_core.specs.Updating.{GainsNeeded};
 ghost use Rattle.oracle_core.specs.Readings.{IsTurn, closes_turn};
 ghost use Rattle.oracle_core.specs.Stepping.{EndsInHand, GoesOnBySteps, in_hand_behind, lost_by};
 ghost use Rattle.oracle_face.specs.Kinds.{is_assumption_based};
+ghost use Rattle.oracle_face.specs.Parts.{IsLargestPart};
 ghost use Rattle.atom_solver.specs.States.{empty_log};
 
 use crate::reading::{Reading, read_model};
@@ -32,6 +35,7 @@ use atom_solver::{AtomSolver, Searched};
 use edit_rules::Framework;
 use entry_taking::{StepNames, add_axiom_once, import_entry};
 use hinted_log::MAX_STEPS;
+use ideal_set::{largest_part, largest_part_of_assumptions};
 use lists::{Items, Memory};
 use meaning_atoms::{AtomLit, AxiomName};
 use oracle_face::{AskId, Entry, Found};
@@ -95,6 +99,22 @@ pub(crate) fn range_of(alloc: Global, framework: &Framework, set: &NumSet) -> Re
             let attacked = plain.attacked_by(alloc, set)?;
             set.union(alloc, &attacked)
         }
+    }
+}
+
+/// The largest admissible part of a conflict-free set without some numbers.
+pub(crate) fn admissible_part_of(
+    alloc: Global,
+    framework: &Framework,
+    set: &NumSet,
+    without: &NumSet,
+) -> Result<NumSet, Memory>
+    requires { HoldsOf (framework_of framework.now) set.now Cf }
+    ensures { IfOk result (IsLargestPart (framework_of framework.now) set.now without.now) }
+{
+    match framework {
+        Framework::Af(plain) => largest_part(alloc, plain, set, without),
+        Framework::Aba(plain) => largest_part_of_assumptions(alloc, plain, set, without),
     }
 }
 

@@ -290,6 +290,15 @@ impl<'a, T: ClauseTrade> Oracle for Trading<'a, T> {
         self.engine.range(alloc, set)
     }
 
+    fn admissible_part(
+        &self,
+        alloc: Global,
+        set: &NumSet,
+        without: &NumSet,
+    ) -> Result<NumSet, Memory> {
+        self.engine.admissible_part(alloc, set, without)
+    }
+
     fn accepts(&self, alloc: Global, goal: u32, set: &NumSet) -> Result<bool, Memory> {
         self.engine.accepts(alloc, goal, set)
     }

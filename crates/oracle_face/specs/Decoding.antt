@@ -5,7 +5,8 @@ use Rattle.certificate_claims.specs.semantics.specs.Framework.{Af}
 use Rattle.certificate_claims.specs.semantics.specs.Frameworks.{Framework, af, aba}
 use Rattle.semantics.specs.AbaFrameworks.{Aba, IsAtom}
 use Rattle.certificate_claims.specs.meaning_atoms.specs.declared.atom.Atom.{Atom}
-use Rattle.certificate_claims.specs.meaning_atoms.specs.declared.atom.Atom.TheVariants.{Member, Tail, Range, Cf, Ad, Co, St, Der}
+use Rattle.certificate_claims.specs.meaning_atoms.specs.declared.atom.Atom.TheVariants.{Member, Tail, Range, Cf, Ad, Co, St, Der, Hit}
+use Rattle.certificate_claims.specs.meaning_atoms.specs.declared.atom.Closure.TheVariants.{Own}
 use Rattle.certificate_claims.specs.meaning_atoms.specs.declared.atom.AtomLit.{AtomLit}
 use Rattle.certificate_claims.specs.meaning_atoms.specs.declared.axiom.AxiomName.{AxiomName}
 use Rattle.certificate_claims.specs.meaning_atoms.specs.Literals.{affirmed, denied, negated}
@@ -33,22 +34,24 @@ pub record IsModelOf (f : Framework) (values : List AtomLit) : Type 0 where
       → Contains values l ⊎ Contains values (negated l)
 
 -- what is read back of an abstract framework: modes, and what is said of its arguments and of their ranges and
--- attackers, both ways
+-- attackers, both ways; what is said of contraries has a fixed reading there
 abbrev pub IsReadBackInAf : Af → Atom → Bool → Type 0
 IsReadBackInAf f (Member a) positive = Contains f.live a
 IsReadBackInAf f (Range a) positive = Contains f.live a
 IsReadBackInAf f (Tail a i) positive = Contains f.live a × (i ≡ 1)
+IsReadBackInAf f (Hit k a i) true = Unit {0}
 IsReadBackInAf f Cf true = Unit {0}
 IsReadBackInAf f Ad true = Unit {0}
 IsReadBackInAf f Co true = Unit {0}
 IsReadBackInAf f St true = Unit {0}
 IsReadBackInAf f _ _ = ⊥
 
--- and of an assumption-based one: modes, and what is said of assumptions as members and of atoms in closures, both ways;
--- ranges and attackers have a fixed reading there
+-- and of an assumption-based one: modes, what is said of assumptions as members and of atoms in closures, both ways, and
+-- that the set derives a contrary of an assumption; ranges and attackers have a fixed reading there
 abbrev pub IsReadBackInAba : Aba → Atom → Bool → Type 0
 IsReadBackInAba f (Member a) positive = Contains f.assumptions a
 IsReadBackInAba f (Der k x) positive = IsAtom f.atoms x
+IsReadBackInAba f (Hit Own a i) true = Contains f.assumptions a × (i ≡ 1)
 IsReadBackInAba f (Range a) true = Unit {0}
 IsReadBackInAba f (Tail a i) true = Unit {0}
 IsReadBackInAba f Cf true = Unit {0}

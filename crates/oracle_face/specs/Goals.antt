@@ -5,7 +5,7 @@ use Rattle.certificate_claims.specs.semantics.specs.Arguments.{IsArgument}
 use Rattle.certificate_claims.specs.semantics.specs.Frameworks.{Framework, aba}
 use Rattle.semantics.specs.AbaFrameworks.{IsAtom}
 use Rattle.certificate_claims.specs.meaning_atoms.specs.declared.atom.Atom.{Atom}
-use Rattle.certificate_claims.specs.meaning_atoms.specs.declared.atom.Atom.TheVariants.{Member, Tail, Range, Cf, Ad, Co, St, Der, Ask}
+use Rattle.certificate_claims.specs.meaning_atoms.specs.declared.atom.Atom.TheVariants.{Member, Tail, Range, Cf, Ad, Co, St, Der, Hit, Ask}
 use Rattle.certificate_claims.specs.meaning_atoms.specs.declared.atom.AtomLit.{AtomLit}
 use Rattle.certificate_claims.specs.meaning_atoms.specs.declared.atom.Closure.{Closure}
 use Rattle.certificate_claims.specs.meaning_atoms.specs.declared.atom.Closure.TheVariants.{Own}
@@ -27,11 +27,12 @@ IsMode St = Unit {0}
 IsMode _ = ⊥
 
 -- what a side clause may say of a number: that it is in the set or isn't, that it is in the set's range, or that the
--- set attacks it
+-- set attacks it, by a member or by a contrary that it derives
 abbrev pub Tells : (ℕ → Type 0) → Atom → Bool → Type 0
 Tells P (Member a) positive = P a
 Tells P (Range a) true = P a
 Tells P (Tail a i) true = P a × (i ≡ 1)
+Tells P (Hit Own a i) true = P a × (i ≡ 1)
 Tells P _ positive = ⊥
 
 -- each literal speaks of members of the framework, as a side clause may
@@ -70,10 +71,21 @@ IsOneSided side =
     ((l : AtomLit) → Contains side l → l.positive ≡ true)
     ⊎ (((l : AtomLit) → Contains side l → IsMemberAtom l.atom) × (IsTautology negated side → ⊥))
 
+abbrev pub IsHitAtom : Atom → Type 0
+IsHitAtom (Hit k a i) = Unit {0}
+IsHitAtom _ = ⊥
+
+-- no literal says that a contrary is derived, or each does: then some framework and set make none of them true
+abbrev pub IsOfOneKind : List AtomLit → Type 0
+IsOfOneKind side =
+    ((l : AtomLit) → Contains side l → IsHitAtom l.atom → ⊥)
+    ⊎ ((l : AtomLit) → Contains side l → IsHitAtom l.atom)
+
 -- a side clause that an oracle may be asked to keep
 pub record IsSide (side : List AtomLit) : Type 0 where
   pub tells : (l : AtomLit) → Contains side l → Tells IsArgument l.atom l.positive
   pub one_sided : IsOneSided side
+  pub of_one_kind : IsOfOneKind side
 
 -- ---- what is found
 

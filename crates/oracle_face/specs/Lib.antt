@@ -7,6 +7,7 @@ pub mod Kinds
 pub mod Laws
 pub mod Logs
 pub mod Needed
+pub mod Parts
 pub mod Trades
 pub mod Walks
 pub use Rattle.certificate_claims as certificate_claims

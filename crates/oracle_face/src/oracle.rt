@@ -8,6 +8,9 @@ ghost use Rattle.oracle_face.specs.Logs.{IsKept};
 ghost use Rattle.oracle_face.specs.Goals.{AreGoals, IsSide};
 ghost use Rattle.oracle_face.specs.Growing.{HasRun, IsFound, NoSide, Obliges, OnlySide, closes, halt_of};
 ghost use Rattle.oracle_face.specs.Kinds.{IsRanged, is_assumption_based};
+ghost use Rattle.oracle_face.specs.Parts.{IsLargestPart};
+ghost use Rattle.certificate_claims.specs.meaning_atoms.specs.declared.atom.Atom.TheVariants.{Cf};
+ghost use Rattle.certificate_claims.specs.meaning_atoms.specs.Worlds.{HoldsOf};
 
 use crate::face::{AskId, Found};
 use lists::Memory;
@@ -35,7 +38,7 @@ pub trait Oracle {
     /// below.
     ghost follows: { Self → Self → Type 0 };
 
-    /// The numbers that sets are made of: the live arguments.
+    /// The numbers that sets are made of: the live arguments, or the assumptions.
     fn members(&self) -> &NumSet
         ensures value { result.now ≡ members (framework self.now) }
         ensures kept { IsKept (framework self.now) (log self.now) };
@@ -78,6 +81,16 @@ pub trait Oracle {
     /// The set with the members that it attacks.
     fn range(&self, alloc: Global, set: &NumSet) -> Result<NumSet, Memory>
         ensures { IfOk result (IsSetOf (IsRanged (framework self.now) set.now)) };
+
+    /// The largest admissible set that is part of a conflict-free one and has none of the numbers.
+    fn admissible_part(
+        &self,
+        alloc: Global,
+        set: &NumSet,
+        without: &NumSet,
+    ) -> Result<NumSet, Memory>
+        requires { HoldsOf (framework self.now) set.now Cf }
+        ensures { IfOk result (IsLargestPart (framework self.now) set.now without.now) };
 
     /// Whether a set accepts an argument.
     fn accepts(&self, alloc: Global, goal: u32, set: &NumSet) -> Result<bool, Memory>

@@ -1,20 +1,16 @@
 -- Answers by the ideal set.
-use Rattle.std.proofs.Common.{◌≡◌, ℕ, zero, suc, ◌<◌, Bool, true, false, List, [], ◌∷◌, length, refl, sym, subst, arith}
+use Rattle.std.proofs.Common.{ℕ, zero, suc, ◌<◌, Bool, true, false, List, [], ◌∷◌, length, refl, sym, subst, arith}
 use Rattle.std.specs.Prelude.{Option, Some, None, slice_index_or}
-use Rattle.std.proofs.lemmas.Bool.{false≢true}
-use Rattle.semantics.specs.Frameworks.{Framework, af, aba}
+use Rattle.semantics.specs.Frameworks.{Framework}
 use Rattle.iccma_tasks.specs.declared.task.Problem.{Problem}
 use Rattle.iccma_tasks.specs.declared.task.Problem.TheVariants.{Credulous, Sceptical, SomeExtension, AllExtensions}
 use Rattle.iccma_tasks.specs.declared.task.Semantics.{Semantics}
 use Rattle.iccma_tasks.specs.declared.task.Semantics.TheVariants.{Ideal}
-use Rattle.iccma_tasks.specs.Tasks.{Asked, FitsTask, HasTask}
+use Rattle.iccma_tasks.specs.Tasks.{Asked, FitsTask}
 use Rattle.certificate_claims.specs.declared.row.Row.TheVariants.{Ideal as IdealRow}
 use Rattle.certificate_claims.specs.Acceptance.{AcceptsAsSaid, IsShown, PassesSet, Tests}
 use Rattle.certificate_claims.specs.Claims.{ideal_claims}
-use Rattle.oracle_face.specs.Kinds.{is_assumption_based}
 use Rattle.oracle_face.specs.Logs.{OracleLog}
-use Rattle.edit_rules.specs.Kinds.{kind_of}
-use Rattle.goal_lists.proofs.GoalKinds.{ideal_abstract}
 use Rattle.ideal_set.specs.declared.searching.IdealSet.{IdealSet}
 use Rattle.ideal_set.specs.Ideals.{IsIdealFound, attacked_claim, free_claim}
 use Rattle.certificate_claims.specs.SetLiterals.{hit_by_any}
@@ -23,11 +19,6 @@ use Rattle.enumerate_block.proofs.StepLemmas.{refuted_first}
 use Rattle.query_answers.specs.Answers.{AsksBy, IsEvidence, IsOne, IsSaid}
 use Rattle.query_answers.specs.Forms.{ideal_evidence}
 use Rattle.query_answers.proofs.TestLemmas.{asked_of, index_there, refuted_one}
-
--- frameworks that are asked for the ideal set are abstract
-pub by_ideal_abstract : (f : Framework) (asked : Asked) → AsksBy f asked Ideal → is_assumption_based f ≡ false
-by_ideal_abstract f asked h =
-    ideal_abstract f asked.task.problem (subst (HasTask (kind_of f) asked.task.problem) h.same h.query.fits.task)
 
 -- the steps refute the two claims
 claims_refuted : (f : Framework) (log : OracleLog) (found : IdealSet) → IsIdealFound f log found
@@ -72,37 +63,36 @@ tests_unnamed f asked log accepts found h said = record {
 }
 
 ideal_shown : (f : Framework) (log : OracleLog) (problem : Problem) (number : Option ℕ) (accepts : Bool)
-    (found : IdealSet) → is_assumption_based f ≡ false → IsOne problem → FitsTask problem number
+    (found : IdealSet) → IsOne problem → FitsTask problem number
     → IsSaid f number found.set accepts
     → IsIdealFound f log found
     → IsEvidence f (asked_of problem Ideal number) log (ideal_evidence problem accepts found)
-ideal_shown (aba f) log problem number accepts found kind one fits said h = absurd (false≢true (sym kind))
-ideal_shown (af f) log Credulous (Some q) true found kind one fits said h = record {
-  tests = tests_named (af f) (asked_of Credulous Ideal (Some q)) log (Some true) found h (said.0 refl);
-  refuted = claims_refuted (af f) log found h;
+ideal_shown f log Credulous (Some q) true found one fits said h = record {
+  tests = tests_named f (asked_of Credulous Ideal (Some q)) log (Some true) found h (said.0 refl);
+  refuted = claims_refuted f log found h;
 }
-ideal_shown (af f) log Credulous (Some q) false found kind one fits said h = record {
-  tests = tests_unnamed (af f) (asked_of Credulous Ideal (Some q)) log (Some false) found h
+ideal_shown f log Credulous (Some q) false found one fits said h = record {
+  tests = tests_unnamed f (asked_of Credulous Ideal (Some q)) log (Some false) found h
       (λ c. let is = said.1 c in absurd (cc));
-  refuted = claims_refuted (af f) log found h;
+  refuted = claims_refuted f log found h;
 }
-ideal_shown (af f) log Sceptical (Some q) true found kind one fits said h = record {
-  tests = tests_unnamed (af f) (asked_of Sceptical Ideal (Some q)) log (Some true) found h (said.0 refl);
-  refuted = claims_refuted (af f) log found h;
+ideal_shown f log Sceptical (Some q) true found one fits said h = record {
+  tests = tests_unnamed f (asked_of Sceptical Ideal (Some q)) log (Some true) found h (said.0 refl);
+  refuted = claims_refuted f log found h;
 }
-ideal_shown (af f) log Sceptical (Some q) false found kind one fits said h = record {
-  tests = tests_named (af f) (asked_of Sceptical Ideal (Some q)) log (Some false) found h
+ideal_shown f log Sceptical (Some q) false found one fits said h = record {
+  tests = tests_named f (asked_of Sceptical Ideal (Some q)) log (Some false) found h
       (λ c. let is = said.1 c in absurd (cc));
-  refuted = claims_refuted (af f) log found h;
+  refuted = claims_refuted f log found h;
 }
-ideal_shown (af f) log SomeExtension None accepts found kind one fits said h = record {
-  tests = tests_named (af f) (asked_of SomeExtension Ideal None) log None found h tt;
-  refuted = claims_refuted (af f) log found h;
+ideal_shown f log SomeExtension None accepts found one fits said h = record {
+  tests = tests_named f (asked_of SomeExtension Ideal None) log None found h tt;
+  refuted = claims_refuted f log found h;
 }
-ideal_shown (af f) log AllExtensions number accepts found kind one fits said h = absurd one
-ideal_shown (af f) log Credulous None accepts found kind one fits said h = absurd fits
-ideal_shown (af f) log Sceptical None accepts found kind one fits said h = absurd fits
-ideal_shown (af f) log SomeExtension (Some q) accepts found kind one fits said h = absurd fits
+ideal_shown f log AllExtensions number accepts found one fits said h = absurd one
+ideal_shown f log Credulous None accepts found one fits said h = absurd fits
+ideal_shown f log Sceptical None accepts found one fits said h = absurd fits
+ideal_shown f log SomeExtension (Some q) accepts found one fits said h = absurd fits
 
 pub ideal_evidenced : (f : Framework) (log : OracleLog) (asked : Asked) (accepts : Bool) (found : IdealSet)
     → AsksBy f asked Ideal → FitsTask asked.task.problem asked.number
@@ -111,5 +101,4 @@ pub ideal_evidenced : (f : Framework) (log : OracleLog) (asked : Asked) (accepts
 ideal_evidenced f log asked accepts found h fits said is =
     subst (λ (s : Semantics). IsEvidence f (asked_of asked.task.problem s asked.number) log
     (ideal_evidence asked.task.problem accepts found)) (sym h.same)
-    (ideal_shown f log asked.task.problem asked.number accepts found (by_ideal_abstract f asked h) h.query.one fits
-    said is)
+    (ideal_shown f log asked.task.problem asked.number accepts found h.query.one fits said is)

@@ -7,7 +7,8 @@ use Rattle.std.proofs.lemmas.List.Elements.{All-contains}
 use Rattle.semantics.specs.Arguments.{IsArgument}
 use Rattle.semantics.specs.Frameworks.{Framework, af, aba}
 use Rattle.meaning_atoms.specs.declared.atom.Atom.{Atom}
-use Rattle.meaning_atoms.specs.declared.atom.Atom.TheVariants.{Member, Range, Tail, Ask}
+use Rattle.meaning_atoms.specs.declared.atom.Atom.TheVariants.{Member, Range, Tail, Hit, Ask}
+use Rattle.meaning_atoms.specs.declared.atom.Closure.TheVariants.{Own}
 use Rattle.meaning_atoms.specs.Atoms.{IsAtom, IsLit, IsPosition}
 use Rattle.meaning_atoms.specs.Worlds.{IsAsk}
 use Rattle.oracle_face.specs.af_axioms.proofs.Literals.{rows_fit}
@@ -91,6 +92,8 @@ tells_within : (atom : Atom) (positive : Bool) → Tells IsArgument atom positiv
 tells_within (Member a) positive tells = tells
 tells_within (Range a) true tells = tells
 tells_within (Tail a i) true tells =
+    (tells.0, subst (λ (n : ℕ). IsPosition n) (sym tells.1) (record { low = omega arith; high = omega arith }))
+tells_within (Hit Own a i) true tells =
     (tells.0, subst (λ (n : ℕ). IsPosition n) (sym tells.1) (record { low = omega arith; high = omega arith }))
 tells_within _ positive tells = absurd tells
 

@@ -9,13 +9,15 @@ use Rattle.lists.proofs.Membership.{Contains-nil, Contains-cons_cases}
 use Rattle.plain_lits.specs.HintCheck.{IsTautology}
 use Rattle.semantics.specs.Arguments.{IsArgument}
 use Rattle.semantics.specs.Framework.{Af}
-use Rattle.semantics.specs.Frameworks.{Framework, af, IsNumberedAf}
+use Rattle.semantics.specs.Frameworks.{Framework, af, aba, IsNumberedAf}
+use Rattle.semantics.specs.AbaFrameworks.{Aba, IsNumberedAba}
 use Rattle.meaning_atoms.specs.declared.atom.Atom.{Atom}
-use Rattle.meaning_atoms.specs.declared.atom.Atom.TheVariants.{Member, Range, Tail, Ask}
+use Rattle.meaning_atoms.specs.declared.atom.Atom.TheVariants.{Member, Range, Tail, Hit, Ask}
+use Rattle.meaning_atoms.specs.declared.atom.Closure.TheVariants.{Own, Rest}
 use Rattle.meaning_atoms.specs.declared.atom.AtomLit.{AtomLit}
 use Rattle.meaning_atoms.specs.Literals.{affirmed, denied, negated}
 use Rattle.meaning_atoms.specs.Worlds.{world_of, IsWorldOf, Holds, HoldsLit, Says}
-use Rattle.oracle_face.specs.Goals.{IsSide, IsMemberAtom, Tells}
+use Rattle.oracle_face.specs.Goals.{IsHitAtom, IsSide, IsMemberAtom, Tells}
 use Rattle.oracle_face.specs.Logs.{LogStep, OracleLog, IsLog}
 use Rattle.oracle_face.specs.Logs.{IsNumberOf, IsNew, guarded, literals_of, working, step_at, no_step}
 use Rattle.oracle_face.proofs.StepTruth.{steps_true}
@@ -40,26 +42,63 @@ no_af_numbered = record {
   live = λ a c. absurd (Contains-nil a c);
 }
 
--- a set whose every literal of the side clause is false
-record IsFalseIn (side : List AtomLit) (s : List ℕ) : Type 0 where
-  world : IsWorldOf (af no_af) s
-  false_there : (sides : List (List AtomLit)) (l : AtomLit) → Contains side l
-      → HoldsLit (world_of (af no_af) s) sides l → ⊥
+-- no atom, no assumption and no rule
+abbrev pub no_aba : Aba
+no_aba = record { atoms = 0; assumptions = []; contraries = []; rules = []; next = 1 }
+
+no_aba_numbered : IsNumberedAba no_aba
+no_aba_numbered = record {
+  form = record {
+    assumptions_rise = λ i high. absurd (omega arith);
+    assumptions_are = λ a c. absurd (Contains-nil a c);
+    contraries_rise = λ i j d lt high. absurd (omega arith);
+    contraries_are = λ a c k. absurd (Contains-nil (a, c) k);
+    numbers_rise = λ i high. absurd (omega arith);
+    rules_are = λ r c. absurd (Contains-nil r c);
+    next_is = omega arith;
+  };
+  atoms = omega arith;
+  rules = omega arith;
+}
+
+-- a set of a framework, whose every literal of the side clause is false
+record IsFalseIn (side : List AtomLit) (g : Framework) (s : List ℕ) : Type 0 where
+  world : IsWorldOf g s
+  false_there : (sides : List (List AtomLit)) (l : AtomLit) → Contains side l → HoldsLit (world_of g s) sides l → ⊥
 
 affirmed_false : (sides : List (List AtomLit)) (atom : Atom) (positive : Bool) → positive ≡ true
-    → Tells IsArgument atom positive → Says positive (Holds (world_of (af no_af) []) sides atom) → ⊥
-affirmed_false sides (Member a) true e tells h = Contains-nil a h
-affirmed_false sides (Range a) true e tells h = ⊎_elim (λ c. Contains-nil a c) (λ hit. Contains-nil hit.0 hit.1) h
-affirmed_false sides (Tail a i) true e tells h = Contains-nil h.attacker h.member
-affirmed_false sides _ false e tells h = false≢true e
-affirmed_false sides _ _ e tells h = tells
+    → (IsHitAtom atom → ⊥) → Tells IsArgument atom positive
+    → Says positive (Holds (world_of (af no_af) []) sides atom) → ⊥
+affirmed_false sides (Member a) true e none tells h = Contains-nil a h
+affirmed_false sides (Range a) true e none tells h =
+    ⊎_elim (λ c. Contains-nil a c) (λ hit. Contains-nil hit.0 hit.1) h
+affirmed_false sides (Tail a i) true e none tells h = Contains-nil h.attacker h.member
+affirmed_false sides (Hit k a i) positive e none tells h = none tt
+affirmed_false sides _ false e none tells h = false≢true e
+affirmed_false sides _ _ e none tells h = tells
 
--- a side clause that only affirms is false of the empty set
+-- a side clause that only affirms, but no derived contrary, is false of the empty set
 empty_false : (side : List AtomLit) → ((l : AtomLit) → Contains side l → Tells IsArgument l.atom l.positive)
-    → ((l : AtomLit) → Contains side l → l.positive ≡ true) → IsFalseIn side []
-empty_false side tells all = record {
+    → ((l : AtomLit) → Contains side l → IsHitAtom l.atom → ⊥)
+    → ((l : AtomLit) → Contains side l → l.positive ≡ true) → IsFalseIn side (af no_af) []
+empty_false side tells none all = record {
   world = record { framework = no_af_numbered; members = λ a c. absurd (Contains-nil a c) };
-  false_there = λ sides l c h. affirmed_false sides l.atom l.positive (all l c) (tells l c) h;
+  false_there = λ sides l c h. affirmed_false sides l.atom l.positive (all l c) (none l c) (tells l c) h;
+}
+
+hit_false : (sides : List (List AtomLit)) (atom : Atom) (positive : Bool) → IsHitAtom atom
+    → Tells IsArgument atom positive → Says positive (Holds (world_of (aba no_aba) []) sides atom) → ⊥
+hit_false sides (Hit Own a i) true hit tells h = Contains-nil a h.assumption
+hit_false sides (Hit Own a i) false hit tells h = tells
+hit_false sides (Hit Rest a i) positive hit tells h = absurd tells
+hit_false sides _ positive hit tells h = hit
+
+-- a side clause of derived contraries is false of the empty set
+hits_false : (side : List AtomLit) → ((l : AtomLit) → Contains side l → Tells IsArgument l.atom l.positive)
+    → ((l : AtomLit) → Contains side l → IsHitAtom l.atom) → IsFalseIn side (aba no_aba) []
+hits_false side tells all = record {
+  world = record { framework = no_aba_numbered; members = λ a c. absurd (Contains-nil a c) };
+  false_there = λ sides l c h. hit_false sides l.atom l.positive (all l c) (tells l c) h;
 }
 
 -- the members that a clause about membership denies
@@ -109,7 +148,7 @@ member_false side about plain sides a false c h = h (denied_listed side (denied 
 
 denied_false : (side : List AtomLit) → ((l : AtomLit) → Contains side l → Tells IsArgument l.atom l.positive)
     → ((l : AtomLit) → Contains side l → IsMemberAtom l.atom) → (IsTautology negated side → ⊥)
-    → IsFalseIn side (denied_members side)
+    → IsFalseIn side (af no_af) (denied_members side)
 denied_false side tells about plain = record {
   world = record {
     framework = no_af_numbered;
@@ -125,9 +164,25 @@ denied_false side tells about plain = record {
       (subst (λ (a : Atom). Says l.positive (Holds (world_of (af no_af) (denied_members side)) sides a)) (sym atom) h);
 }
 
-false_somewhere : (side : List AtomLit) → IsSide side → (s : List ℕ) × IsFalseIn side s
-false_somewhere side is = ⊎_elim (λ all. ([], empty_false side is.tells all))
-    (λ about. (denied_members side, denied_false side is.tells about.0 about.1)) is.one_sided
+-- a framework and a set in which the side clause is false
+record IsFalseSomewhere (side : List AtomLit) : Type 0 where
+  framework : Framework
+  set : List ℕ
+  is_false : IsFalseIn side framework set
+
+false_somewhere : (side : List AtomLit) → IsSide side → IsFalseSomewhere side
+false_somewhere side is = ⊎_elim
+    (λ none. ⊎_elim (λ all. record {
+      framework = af no_af;
+      set = [];
+      is_false = empty_false side is.tells none all;
+    }) (λ about. record {
+      framework = af no_af;
+      set = denied_members side;
+      is_false = denied_false side is.tells about.0 about.1;
+    }) is.one_sided)
+    (λ all. record { framework = aba no_aba; set = []; is_false = hits_false side is.tells all })
+    is.of_one_kind
 
 -- ---- newness
 
@@ -177,9 +232,8 @@ side_is_new f log side form guards is =
           let at = working_step log part.part part.listed in
           let low = at.1 in
           let world = false_somewhere side is in
-          let s = world.0 in
           let sides = literals_of log.sides in
-          let t = steps_true f (world_of (af no_af) s) log world.1.world form at.0 at.1 in
+          let t = steps_true f (world_of world.framework world.set) log world.is_false.world form at.0 at.1 in
           let there : Contains part.part t.literal =
           subst (λ (clause : List AtomLit). Contains clause t.literal) at.2 t.member in
           ⊎_elim
@@ -193,6 +247,6 @@ side_is_new f log side form guards is =
           let named = rests_on_named f log (at.0 + 1) n form number (guards.rests (at.0 + 1) n number denies) in
           let high = named.within in
           absurd (omega arith))
-          (λ in_side. world.1.false_there sides t.literal in_side t.says)
+          (λ in_side. world.is_false.false_there sides t.literal in_side t.says)
           (Contains-cons_cases (denied (Ask n)) side t.literal (part.inside t.literal there));
     }

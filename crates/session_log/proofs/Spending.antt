@@ -10,7 +10,8 @@ use Rattle.plain_lits.specs.Units.{Units}
 use Rattle.semantics.specs.Arguments.{IsArgument}
 use Rattle.semantics.specs.Frameworks.{Framework, af, aba}
 use Rattle.meaning_atoms.specs.declared.atom.Atom.{Atom}
-use Rattle.meaning_atoms.specs.declared.atom.Atom.TheVariants.{Member, Range, Tail, Ask}
+use Rattle.meaning_atoms.specs.declared.atom.Atom.TheVariants.{Member, Range, Tail, Hit, Ask}
+use Rattle.meaning_atoms.specs.declared.atom.Closure.TheVariants.{Own}
 use Rattle.meaning_atoms.specs.declared.atom.AtomLit.{AtomLit}
 use Rattle.meaning_atoms.specs.declared.axiom.AxiomName.{AxiomName}
 use Rattle.meaning_atoms.specs.Literals.{denied}
@@ -171,10 +172,12 @@ tells_no_fact : (f : Framework) (atom : Atom) (positive : Bool) → Tells IsArgu
 tells_no_fact (af f) (Member a) positive tells fact = fact
 tells_no_fact (af f) (Range a) true tells fact = fact
 tells_no_fact (af f) (Tail a i) true tells fact = fact
+tells_no_fact (af f) (Hit Own a i) true tells fact = fact
 tells_no_fact (af f) _ positive tells fact = absurd tells
 tells_no_fact (aba f) (Member a) positive tells fact = fact
 tells_no_fact (aba f) (Range a) true tells fact = fact
 tells_no_fact (aba f) (Tail a i) true tells fact = fact
+tells_no_fact (aba f) (Hit Own a i) true tells fact = fact
 tells_no_fact (aba f) _ positive tells fact = absurd tells
 
 ask_no_fact : (f : Framework) (n : ℕ) → IsFact f (Ask n) → ⊥

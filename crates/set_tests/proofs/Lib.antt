@@ -1,1 +1,2 @@
+mod AttackLemmas
 mod GroundedSets

@@ -1,1 +1,2 @@
+pub mod Attacks
 pub mod Bases

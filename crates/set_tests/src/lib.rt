@@ -2,6 +2,7 @@
 //! what is asked about. What the tests of all sets share is found once.
 #![tactic(auto)]
 
+mod attacks;
 pub mod kinds;
 
 pub use kinds::{Basis, SetTests, basis_of, grounded_accepts, member_count, uses_of};

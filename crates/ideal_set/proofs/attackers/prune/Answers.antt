@@ -1,11 +1,10 @@
-use Rattle.std.proofs.Common.{◌∙◌, ℕ, List, ap, arith, subst, sym}
+use Rattle.std.proofs.Common.{◌∙◌, ℕ, List, arith, subst, sym}
 use Rattle.lists.proofs.Membership.{IsWithin-refl}
 use Rattle.semantics.specs.Frameworks.{Framework, IsNumbered}
 use Rattle.meaning_atoms.specs.declared.atom.Atom.TheVariants.{Ad}
 use Rattle.meaning_atoms.specs.Worlds.{HoldsOf}
 use Rattle.oracle_face.specs.declared.face.Found.TheVariants.{Set, Refuted}
-use Rattle.oracle_face.specs.Kinds.{is_assumption_based}
-use Rattle.ideal_set.specs.Ideals.{IsCut, IsFree, IsPicture}
+use Rattle.ideal_set.specs.Ideals.{IsCut, IsFree}
 use Rattle.ideal_set.proofs.IdealLemmas.{asked_turn, fewer_left, hit_stays, hit_within, one_more, search_cut}
 use Rattle.goal_lists.proofs.RunLemmas.{ran_lost, ran_none, ran_nothing, then_found, then_handed, then_none}
 use Rattle.ideal_set.proofs.attackers.prune.Goals as goal
@@ -21,18 +20,10 @@ loop-part-init g c =
       ran = ran_none 0 c.members-members.ensures.kept (g.met.O.Oracle.stays _);
     }
 
-pub attacker-requires-clause-kind : goal.attacker-requires-clause-kind
-attacker-requires-clause-kind g c = ap is_assumption_based c.loop-part.invariant.ran.framework ∙ c.requires.kind
-
-pub attacker-requires-clause-holds : goal.attacker-requires-clause-holds
-attacker-requires-clause-holds g c =
+pub attacker-requires : goal.attacker-requires
+attacker-requires g c =
     subst (λ (w : Framework). HoldsOf w c.loop-part.part Ad) (sym c.loop-part.invariant.ran.framework)
     c.loop-part.invariant.free.admissible
-
-pub cut-requires-clause-plain : goal.cut-requires-clause-plain
-cut-requires-clause-plain g c =
-    subst (λ (w : Framework). IsPicture w c.args.plain.now)
-    (sym (c.in_ok-other.ensures.ran.framework ∙ c.loop-part.invariant.ran.framework)) c.requires.plain
 
 pub cut-requires-clause-set : goal.cut-requires-clause-set
 cut-requires-clause-set g c =
@@ -75,7 +66,7 @@ loop-part-smaller g c =
     let log = g.O.Oracle.log c.attacker.new.oracle in
     fewer_left f log c.loop-part.found c.cut.new.found c.loop-part.part c.in-Set.other c.in_ok-part-in-Set.part
     c.cut.new.found.hit numbered turn.searched inv.free turn.attacks.1 cut (IsWithin-refl c.cut.new.found.hit)
-    (hit_within f log c.cut.new.found.sets c.cut.new.found.hit c.requires.kind numbered
+    (hit_within f log c.cut.new.found.sets c.cut.new.found.hit numbered
     (search_cut f log c.loop-part.found c.cut.new.found c.loop-part.part c.in-Set.other c.in_ok-part-in-Set.part
     turn.searched inv.free turn.attacks.0 turn.attacks.1 turn.asked cut))
 

@@ -1,17 +1,11 @@
-use Rattle.std.proofs.Common.{◌∙◌, ◌+◌, ap, arith, length, subst, sym}
+use Rattle.std.proofs.Common.{◌∙◌, ◌+◌, arith, length, subst, sym}
 use Rattle.std.proofs.lemmas.Result.{IfOk-from_err}
 use Rattle.semantics.specs.Frameworks.{Framework}
-use Rattle.oracle_face.specs.declared.face.Found.TheVariants.{Set}
-use Rattle.oracle_face.specs.Kinds.{is_assumption_based}
-use Rattle.oracle_face.proofs.GrowingLemmas.{grows_same}
 use Rattle.goal_lists.proofs.RunLemmas.{ran_then, then_handed}
 use Rattle.ideal_set.specs.declared.searching.Turn.TheVariants.{AttackedBy, Unattacked}
-use Rattle.ideal_set.specs.Ideals.{AreAttackers, Attacks, IsAsked, IsCutDown, IsFree, MadeForIdeal}
+use Rattle.ideal_set.specs.Ideals.{AreAttackers, IsCutDown, IsFree}
 use Rattle.ideal_set.proofs.IdealLemmas.{attacked_closes, is_ideal, turn_of, unattacked_closes, within_bound}
 use Rattle.ideal_set.proofs.searching.ideal.Goals as goal
-
-pub take_turn-requires-clause-kind : goal.take_turn-requires-clause-kind
-take_turn-requires-clause-kind g c = ap is_assumption_based c.loop-start.invariant.ran.framework ∙ c.requires
 
 pub take_turn-requires-clause-found : goal.take_turn-requires-clause-found
 take_turn-requires-clause-found g c =
@@ -50,7 +44,7 @@ returns-in-Unattacked-clause-ideal g c =
       unattacked = c.in-Unattacked.unattacked;
       largest = free.refutation;
     })
-    c.loop-start.found.hit c.requires (ran.framework ∙ inv.ran.framework) ran.kept turn.searched turn.largest.is_free
+    c.loop-start.found.hit (ran.framework ∙ inv.ran.framework) ran.kept turn.searched turn.largest.is_free
     turn.largest.refuted turn.attacks
 
 pub returns-in-Unattacked-clause-ran : goal.returns-in-Unattacked-clause-ran
@@ -64,10 +58,6 @@ returns-in-Unattacked-clause-ran g c =
       within_bound _ _ _ _ c.loop-start.found.sets c.loop-start.found.hit 2 (omega arith) inv.searched ran.run.grows,
     ))
     inv.ran ran
-
-pub cut_down-requires-clause-kind : goal.cut_down-requires-clause-kind
-cut_down-requires-clause-kind g c =
-    ap is_assumption_based (c.in_ok-free.ensures.ran.framework ∙ c.loop-start.invariant.ran.framework) ∙ c.requires
 
 pub cut_down-requires-clause-found : goal.cut_down-requires-clause-found
 cut_down-requires-clause-found g c =

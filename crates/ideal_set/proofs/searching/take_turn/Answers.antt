@@ -1,10 +1,9 @@
-use Rattle.std.proofs.Common.{◌≡◌, arith, false, subst, sym}
+use Rattle.std.proofs.Common.{arith, subst, sym}
 use Rattle.std.proofs.lemmas.Result.{IfOk-from_err}
 use Rattle.semantics.specs.Frameworks.{Framework}
 use Rattle.meaning_atoms.specs.declared.atom.Atom.TheVariants.{Ad}
 use Rattle.meaning_atoms.specs.Worlds.{HoldsOf}
 use Rattle.oracle_face.specs.declared.face.Found.TheVariants.{Set, Refuted}
-use Rattle.oracle_face.specs.Kinds.{is_assumption_based}
 use Rattle.goal_lists.proofs.Calls.{makes_same}
 use Rattle.goal_lists.proofs.RunLemmas.{ran_as, ran_handed, then_found, then_handed, then_none}
 use Rattle.ideal_set.proofs.IdealLemmas.{hit_within, some_closes, turned}
@@ -13,7 +12,7 @@ use Rattle.ideal_set.proofs.searching.take_turn.Goals as goal
 pub largest_free-requires-clause-hit : goal.largest_free-requires-clause-hit
 largest_free-requires-clause-hit g c =
     hit_within (g.O.Oracle.framework c.args.oracle.now) (g.O.Oracle.log c.args.oracle.now) c.args.found.now.sets
-    c.args.found.now.hit c.requires.kind c.members-members.ensures.kept.numbered c.requires.found
+    c.args.found.now.hit c.members-members.ensures.kept.numbered c.requires.found
 
 pub returns-in_err-free-clause-turned : goal.returns-in_err-free-clause-turned
 returns-in_err-free-clause-turned g c = IfOk-from_err _ _ c.from_residual.ensures.0
@@ -23,12 +22,8 @@ returns-in_err-free-clause-ran g c =
     ran_handed _ c.from_residual.ensures
     (ran_as (makes_same _) (some_closes c.from_residual.result) c.in_err-free.ensures.ran)
 
-pub attacker-requires-clause-kind : goal.attacker-requires-clause-kind
-attacker-requires-clause-kind g c =
-    subst (λ (x : Framework). is_assumption_based x ≡ false) (sym c.in_ok-free.ensures.ran.framework) c.requires.kind
-
-pub attacker-requires-clause-holds : goal.attacker-requires-clause-holds
-attacker-requires-clause-holds g c =
+pub attacker-requires : goal.attacker-requires
+attacker-requires g c =
     subst (λ (x : Framework). HoldsOf x c.in_ok-free.free.set Ad) (sym c.in_ok-free.ensures.ran.framework)
     c.in_ok-free.ensures.largest.is_free.admissible
 

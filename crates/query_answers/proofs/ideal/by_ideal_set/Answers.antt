@@ -4,12 +4,9 @@ use Rattle.iccma_tasks.specs.declared.task.Task.{Task}
 use Rattle.query_answers.specs.Answers.{IsEvidence, IsSaid}
 use Rattle.query_answers.specs.Forms.{ideal_evidence}
 use Rattle.query_answers.proofs.CallLemmas.{for_all, makes_ideal, no_memory}
-use Rattle.query_answers.proofs.IdealLemmas.{by_ideal_abstract, ideal_evidenced}
+use Rattle.query_answers.proofs.IdealLemmas.{ideal_evidenced}
 use Rattle.goal_lists.proofs.RunLemmas.{ran_handed}
 use Rattle.query_answers.proofs.ideal.by_ideal_set.Goals as goal
-
-pub ideal-requires : goal.ideal-requires
-ideal-requires g c = by_ideal_abstract (g.O.Oracle.framework c.args.oracle.now) c.args.query.now c.requires
 
 pub returns-clause-shown : goal.returns-clause-shown
 returns-clause-shown g c =

@@ -1,6 +1,0 @@
-use Rattle.std.proofs.Common.{take}
-use Rattle.answer_claims.specs.SetFacts.{GainsHits}
-use Rattle.answer_claims.proofs.hits.add_hits.Given as goal
-
-abbrev pub invariant-loop-member : goal.invariant-loop-member
-invariant-loop-member l = GainsHits l.plain (take l.member-index l.set) l.initial.found.items l.found.items
