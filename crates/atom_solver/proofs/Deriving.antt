@@ -29,8 +29,8 @@ use Rattle.oracle_face.specs.Growing.{Grows, NoSide}
 use Rattle.session_log.specs.Steps as session
 use Rattle.session_log.specs.Steps.{FollowsByHints, StandsInHint, derived_step}
 use Rattle.session_log.proofs.Staying.{derived_stays}
-use Rattle.atom_solver.specs.declared.origin.Origin.{Origin}
-use Rattle.atom_solver.specs.declared.origin.Origin.TheVariants.{Hints}
+use Rattle.oracle_face.specs.declared.step_source.StepSource.{StepSource}
+use Rattle.oracle_face.specs.declared.step_source.StepSource.TheVariants.{Hints}
 use Rattle.atom_solver.specs.States.{IsGuardedLog}
 use Rattle.atom_solver.specs.Lifted.{lit_of, atoms_of, in_use, lifted_step, lifted_at, listed, log_upto, log_over}
 use Rattle.atom_solver.proofs.Listing.{length-listed, listed_same, listed_more}
@@ -44,7 +44,7 @@ front_clause : (steps : List Step) (k n : ℕ) → 0 < n → n ≤ k
 front_clause steps k n low high =
     ap (λ (x : Step). x.clause) (get_or-take k steps (n - 1) no_step (omega arith))
 
-module _ (atoms : List Atom) (s : SolverState) (origins : List Origin) (different : AreDifferent atoms)
+module _ (atoms : List Atom) (s : SolverState) (origins : List StepSource) (different : AreDifferent atoms)
     (room : HaveRoomFor (length atoms) (clauses_of s.log.steps)) where
   abbrev pub lifted_upto : ℕ → List LogStep
   lifted_upto k = listed (lifted_at atoms s origins) k
@@ -159,7 +159,7 @@ module _ (atoms : List Atom) (s : SolverState) (origins : List Origin) (differen
 -- ---- a whole search
 
 -- the steps that were there stand for the same
-pub front_same : (atoms : List Atom) (old new : SolverState) (origins : List Origin) (sides : List SideClause)
+pub front_same : (atoms : List Atom) (old new : SolverState) (origins : List StepSource) (sides : List SideClause)
     → Keeps old new → log_upto atoms new origins sides (length old.log.steps) ≡ log_over atoms old origins sides
 front_same atoms old new origins sides keeps =
     let steps = keeps.more_steps in
@@ -181,7 +181,7 @@ front_same atoms old new origins sides keeps =
     ap (λ x. lifted_step atoms x (slice_index_or origins k Hints) (in_use new.active (k + 1))) step
     ∙ ap (λ used. lifted_step atoms (get_or old.log.steps k no_step) (slice_index_or origins k Hints) used) used))
 
-pub search_grows : (atoms : List Atom) (old new : SolverState) (origins : List Origin) (sides : List SideClause)
+pub search_grows : (atoms : List Atom) (old new : SolverState) (origins : List StepSource) (sides : List SideClause)
     → Keeps old new → Grows NoSide (log_over atoms old origins sides) (log_over atoms new origins sides)
 search_grows atoms old new origins sides keeps =
     let same = ap (λ (g : OracleLog). g.steps) (front_same atoms old new origins sides keeps) in
@@ -195,7 +195,7 @@ search_grows atoms old new origins sides keeps =
       made = λ k low high. absurd (omega arith);
     }
 
-pub search_stays : (atoms : List Atom) (old new : SolverState) (origins : List Origin) (sides : List SideClause)
+pub search_stays : (atoms : List Atom) (old new : SolverState) (origins : List StepSource) (sides : List SideClause)
     → AreDifferent atoms → HaveRoomFor (length atoms) (clauses_of new.log.steps) → IsLog new.log
     → length origins ≤ length old.log.steps → Derives old new → (f : Framework)
     → IsGuardedLog f (log_over atoms old origins sides) → IsGuardedLog f (log_over atoms new origins sides)

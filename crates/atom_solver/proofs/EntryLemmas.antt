@@ -26,8 +26,8 @@ use Rattle.oracle_face.specs.declared.entry.EntryName.{EntryName}
 use Rattle.oracle_face.specs.declared.face.Pending.{Pending}
 use Rattle.oracle_face.specs.Logs as face
 use Rattle.oracle_face.specs.Logs.{OracleLog, LogStep, SideClause, IsNumberOf, IsSameClause}
-use Rattle.atom_solver.specs.declared.origin.Origin.{Origin}
-use Rattle.atom_solver.specs.declared.origin.Origin.TheVariants.{Entry}
+use Rattle.oracle_face.specs.declared.step_source.StepSource.{StepSource}
+use Rattle.oracle_face.specs.declared.step_source.StepSource.TheVariants.{Entry}
 use Rattle.atom_solver.specs.States.{AtomState}
 use Rattle.atom_solver.specs.Imported.{Imports, IsImported, IsPlain, IsRefused}
 use Rattle.atom_solver.specs.Inner.{IsFilled}
@@ -84,7 +84,7 @@ module _ (atoms : List Atom) (old new : SolverState) (clause : List Lit) (hints 
     active = adds.in_use ∙ ap (λ n. old.active ++ n ∷ []) adds.recorded.added.next;
   }
 
-  lifted_check : (origins : List Origin) (k : ℕ) → k ≡ length old.log.steps → AreDifferent atoms
+  lifted_check : (origins : List StepSource) (k : ℕ) → k ≡ length old.log.steps → AreDifferent atoms
       → IsLifting atoms old origins → HasRoomFor (length atoms) clause
       → Checks negated (face.clauses_of (listed (lifted_at atoms old origins) k)) (atoms_of atoms clause) kept
       (Ok (length kept))
@@ -96,7 +96,7 @@ module _ (atoms : List Atom) (old new : SolverState) (clause : List Lit) (hints 
       (subst (λ steps. Checks negation (clauses_of steps) clause kept (Ok (length kept))) (sym all)
       (subst (λ n. Checks negation (clauses_of old.log.steps) clause kept (Ok n)) (sym long) sound.alone))
 
-  module _ (origins filled pushed : List Origin) (name : EntryName)
+  module _ (origins filled pushed : List StepSource) (name : EntryName)
       (same : IsFilled origins filled (length old.log.steps)) (long : length filled ≡ length old.log.steps)
       (is : pushed ≡ filled ++ Entry name ∷ []) where
     pub entry_whole : HasRoomFor (length atoms) clause → IsLifting atoms old origins → IsLifting atoms new pushed
@@ -120,7 +120,7 @@ module _ (atoms : List Atom) (old new : SolverState) (clause : List Lit) (hints 
 
 -- ---- a clause is refused
 
-rejected_there : (atoms : List Atom) (s : SolverState) (origins : List Origin) (k : ℕ) (clause : List Lit)
+rejected_there : (atoms : List Atom) (s : SolverState) (origins : List StepSource) (k : ℕ) (clause : List Lit)
     (hints : List ℕ) (place : ℕ) → k ≡ length s.log.steps → AreDifferent atoms → IsLifting atoms s origins
     → HasRoomFor (length atoms) clause → Checks negation (clauses_of s.log.steps) clause hints (Err place)
     → Checks negated (face.clauses_of (listed (lifted_at atoms s origins) k)) (atoms_of atoms clause) hints (Err place)
@@ -129,13 +129,13 @@ rejected_there atoms s origins k clause hints place is different whole room w =
     checks_lifted atoms s origins k clause hints (Err place) different whole.room (omega arith) room
     (subst (λ steps. Checks negation (clauses_of steps) clause hints (Err place)) (sym all) w)
 
-pub refused_full : (atoms : List Atom) (s : SolverState) (origins : List Origin) (sides : List SideClause)
+pub refused_full : (atoms : List Atom) (s : SolverState) (origins : List StepSource) (sides : List SideClause)
     (literals : List AtomLit) (hints : List ℕ) → length s.log.steps ≡ s.log.limit
     → IsRefused (log_over atoms s origins sides) literals hints
 refused_full atoms s origins sides literals hints full =
     inl (length-listed (lifted_at atoms s origins) (length s.log.steps) ∙ full)
 
-pub refused_check : (atoms : List Atom) (s : SolverState) (origins : List Origin) (sides : List SideClause)
+pub refused_check : (atoms : List Atom) (s : SolverState) (origins : List StepSource) (sides : List SideClause)
     (clause : List Lit) (hints : List ℕ) (place : ℕ) → AreDifferent atoms → IsLifting atoms s origins
     → HasRoomFor (length atoms) clause → Checks negation (clauses_of s.log.steps) clause hints (Err place)
     → IsRefused (log_over atoms s origins sides) (atoms_of atoms clause) hints
@@ -146,7 +146,7 @@ refused_check atoms s origins sides clause hints place different whole room w =
     (rejected_there atoms s origins (length s.log.steps) clause hints place refl different whole room w) taken)
 
 -- a log that is full, or hints that are rejected
-pub refused_by : (fault : LogFault) (atoms : List Atom) (s : SolverState) (origins : List Origin)
+pub refused_by : (fault : LogFault) (atoms : List Atom) (s : SolverState) (origins : List StepSource)
     (sides : List SideClause) (clause : List Lit) (hints : List ℕ) → AreDifferent atoms → IsLifting atoms s origins
     → HasRoomFor (length atoms) clause → (fault ≡ OfMemory → ⊥)
     → (fault ≡ LogFull → length s.log.steps ≡ s.log.limit)
@@ -217,7 +217,7 @@ pub asks_at : (atoms : List Atom) (clause : List Lit) (i : ℕ) (l : Lit) → i 
 asks_at atoms clause i l lt at ask none =
     none (lit_of atoms l) (image_there (lit_of atoms) clause l (i, lt, at)) ask
 
-module _ (atoms : List Atom) (s : SolverState) (origins : List Origin) (number : ℕ)
+module _ (atoms : List Atom) (s : SolverState) (origins : List StepSource) (number : ℕ)
     (is : IsNumberOf (listed (lifted_at atoms s origins) (length s.log.steps)) number) where
   abbrev at_number : LogStep
   at_number = face.step_at (listed (lifted_at atoms s origins) (length s.log.steps)) number

@@ -27,10 +27,11 @@ use Rattle.meaning_atoms.specs.declared.atom.AtomLit.{AtomLit}
 use Rattle.oracle_face.specs.declared.face.Pending.{Pending}
 use Rattle.oracle_face.specs.Logs.{SideClause}
 use Rattle.session_log.specs.Steps.{GainsStep, own_step}
-use Rattle.atom_solver.specs.declared.origin.Origin.{Origin}
-use Rattle.atom_solver.specs.declared.origin.Origin.TheVariants.{Axiom as OfAxiom, Hints}
+use Rattle.oracle_face.specs.declared.step_source.StepSource.{StepSource}
+use Rattle.oracle_face.specs.declared.step_source.StepSource.TheVariants.{Axiom as OfAxiom, Hints}
 use Rattle.atom_solver.specs.Inner.{GainsGiven, IsFilled, NeedsNoHints}
-use Rattle.atom_solver.specs.Lifted.{IsLifting, lit_of, atoms_of, source_of, imported_of, in_use, lifted_step}
+use Rattle.atom_solver.specs.Lifted.{IsLifting, lit_of, atoms_of, in_use, lifted_step}
+use Rattle.oracle_face.specs.StepSources.{source_of, imported_of}
 use Rattle.atom_solver.specs.Lifted.{lifted_at, listed, log_over, state_over}
 use Rattle.atom_solver.specs.Tables.{AddsLits, StandsFor}
 use Rattle.atom_solver.proofs.Lifting.{in_use_gives, in_use_yes, in_use_same}
@@ -64,7 +65,7 @@ gains_of old new clause Side number needs h = record {
 gains_of old new clause (Derived hints) number needs h = absurd needs
 
 -- such a step as it is stood for, where it isn't taken from an entry
-pub given_is : (atoms : List Atom) (clause : List Lit) (how : Added) (origin : Origin) → imported_of origin ≡ None
+pub given_is : (atoms : List Atom) (clause : List Lit) (how : Added) (origin : StepSource) → imported_of origin ≡ None
     → lifted_step atoms (step_given clause how) origin true ≡ own_step (atoms_of atoms clause) (source_of origin [])
 given_is atoms clause Axiom origin own = ap (λ name. record {
   clause = atoms_of atoms clause;
@@ -97,7 +98,7 @@ not_rejected log clause Side place needs h = h
 not_rejected log clause (Derived hints) place needs h = needs
 
 module _ (atoms : List Atom) (old new : SolverState) (step : Step) (g : Gains old new step)
-    (origins filled pushed : List Origin) (origin : Origin) (same : IsFilled origins filled (length old.log.steps))
+    (origins filled pushed : List StepSource) (origin : StepSource) (same : IsFilled origins filled (length old.log.steps))
     (long : length filled ≡ length old.log.steps) (is : pushed ≡ filled ++ origin ∷ []) where
   step_old : (k : ℕ) → k < length old.log.steps → get_or new.log.steps k no_step ≡ get_or old.log.steps k no_step
   step_old k lt = ap (λ xs. get_or xs k no_step) g.steps
@@ -203,7 +204,7 @@ module _ (atoms : List Atom) (old new : SolverState) (step : Step) (g : Gains ol
 
 -- the same of a clause that comes without hints
 pub given_gains : (atoms : List Atom) (old new : SolverState) (clause : List Lit) (how : Added) (number : ℕ)
-    (origins filled pushed : List Origin) (origin : Origin) → NeedsNoHints how → AddsTo old new clause how number
+    (origins filled pushed : List StepSource) (origin : StepSource) → NeedsNoHints how → AddsTo old new clause how number
     → imported_of origin ≡ None → IsFilled origins filled (length old.log.steps)
     → length filled ≡ length old.log.steps → pushed ≡ filled ++ origin ∷ [] → (sides : List SideClause)
     (pending : Option Pending) → length old.log.steps < old.log.limit
@@ -220,7 +221,7 @@ given_gains atoms old new clause how number origins filled pushed origin needs a
     }
 
 pub given_whole : (atoms : List Atom) (old new : SolverState) (clause : List Lit) (how : Added) (number : ℕ)
-    (origins filled pushed : List Origin) (origin : Origin) → NeedsNoHints how → AddsTo old new clause how number
+    (origins filled pushed : List StepSource) (origin : StepSource) → NeedsNoHints how → AddsTo old new clause how number
     → IsFilled origins filled (length old.log.steps) → length filled ≡ length old.log.steps
     → pushed ≡ filled ++ origin ∷ [] → HasRoomFor (length atoms) clause → IsLifting atoms old origins
     → IsLifting atoms new pushed
@@ -229,7 +230,7 @@ given_whole atoms old new clause how number origins filled pushed origin needs a
     pushed origin same long is (subst (HasRoomFor (length atoms)) (sym (step_given_clause clause how)) room) h
 
 -- origins that were said again
-pub filled_whole : (atoms : List Atom) (s : SolverState) (origins filled : List Origin) → IsLifting atoms s origins
+pub filled_whole : (atoms : List Atom) (s : SolverState) (origins filled : List StepSource) → IsLifting atoms s origins
     → IsFilled origins filled (length s.log.steps) → IsLifting atoms s filled
 filled_whole atoms s origins filled h f = record {
   room = h.room;
@@ -237,7 +238,7 @@ filled_whole atoms s origins filled h f = record {
   used = λ k name is. h.used k name (sym (f.same k) ∙ is);
 }
 
-pub filled_state : (atoms : List Atom) (s : SolverState) (origins filled : List Origin) (sides : List SideClause)
+pub filled_state : (atoms : List Atom) (s : SolverState) (origins filled : List StepSource) (sides : List SideClause)
     (pending : Option Pending) → IsFilled origins filled (length s.log.steps)
     → state_over atoms s filled sides pending ≡ state_over atoms s origins sides pending
 filled_state atoms s origins filled sides pending f =
@@ -298,7 +299,7 @@ stands_if atoms literals lits (Err m) adds of = of
 -- ---- origins that are said again
 
 -- one more step that follows from its hints says nothing new
-pub hints_pushed : (origins : List Origin) (k : ℕ)
+pub hints_pushed : (origins : List StepSource) (k : ℕ)
     → slice_index_or (origins ++ Hints ∷ []) k Hints ≡ slice_index_or origins k Hints
 hints_pushed origins k =
     ⊎_elim
@@ -313,7 +314,7 @@ hints_pushed origins k =
     (cases_lt k (length origins + 1)))
     (cases_lt k (length origins))
 
-pub filled_more : (old filled : List Origin) (steps : ℕ) → IsFilled old filled steps → length filled < steps
+pub filled_more : (old filled : List StepSource) (steps : ℕ) → IsFilled old filled steps → length filled < steps
     → IsFilled old (filled ++ Hints ∷ []) steps
 filled_more old filled steps h lt = record {
   within = omega (arith, length_push filled Hints);

@@ -21,7 +21,7 @@ use Rattle.meaning_atoms.specs.declared.atom.AtomLit.{AtomLit}
 use Rattle.meaning_atoms.specs.Literals.{negated}
 use Rattle.oracle_face.specs.Logs as face
 use Rattle.oracle_face.specs.Logs.{LogStep, SideClause}
-use Rattle.atom_solver.specs.declared.origin.Origin.{Origin}
+use Rattle.oracle_face.specs.declared.step_source.StepSource.{StepSource}
 use Rattle.atom_solver.specs.Lifted.{atom_at, lit_of, atoms_of, in_use, lifted_at, listed, log_upto}
 use Rattle.atom_solver.proofs.Listing.{length-listed, get_or-listed, listed_same}
 use Rattle.lists.proofs.Images.{image_there, image_from}
@@ -116,7 +116,7 @@ pub room_at : (vars : ℕ) (steps : List Step) (k : ℕ) → HaveRoomFor vars (c
 room_at vars steps k room lt = room (get_or steps k no_step).clause
     (image_there (λ (s : Step). s.clause) steps (get_or steps k no_step) (Contains-get_or steps k no_step lt))
 
-pub log_grow : (atoms more : List Atom) (s : SolverState) (origins : List Origin) (sides : List SideClause) (n : ℕ)
+pub log_grow : (atoms more : List Atom) (s : SolverState) (origins : List StepSource) (sides : List SideClause) (n : ℕ)
     → HaveRoomFor (length atoms) (clauses_of s.log.steps) → n ≤ length s.log.steps
     → log_upto (atoms ++ more) s origins sides n ≡ log_upto atoms s origins sides n
 log_grow atoms more s origins sides n room le =
@@ -128,12 +128,12 @@ log_grow atoms more s origins sides n room le =
 
 -- ---- steps by their numbers
 
-pub step_lifted : (atoms : List Atom) (s : SolverState) (origins : List Origin) (k n : ℕ) → 0 < n → n ≤ k
+pub step_lifted : (atoms : List Atom) (s : SolverState) (origins : List StepSource) (k n : ℕ) → 0 < n → n ≤ k
     → face.step_at (listed (lifted_at atoms s origins) k) n ≡ lifted_at atoms s origins (n - 1)
 step_lifted atoms s origins k n low high =
     get_or-listed (lifted_at atoms s origins) k (n - 1) face.no_step (omega arith)
 
-clause_lifted : (atoms : List Atom) (s : SolverState) (origins : List Origin) (k n : ℕ) → 0 < n → n ≤ k
+clause_lifted : (atoms : List Atom) (s : SolverState) (origins : List StepSource) (k n : ℕ) → 0 < n → n ≤ k
     → k ≤ length s.log.steps
     → clause_at (face.clauses_of (listed (lifted_at atoms s origins) k)) n
     ≡ atoms_of atoms (clause_at (clauses_of (take k s.log.steps)) n)
@@ -148,7 +148,7 @@ clause_lifted atoms s origins k n low high within =
 
 -- ---- checks
 
-pub checks_lifted : (atoms : List Atom) (s : SolverState) (origins : List Origin) (k : ℕ) (clause : List Lit)
+pub checks_lifted : (atoms : List Atom) (s : SolverState) (origins : List StepSource) (k : ℕ) (clause : List Lit)
     (hints : List ℕ) (outcome : Result ℕ ℕ) → AreDifferent atoms
     → HaveRoomFor (length atoms) (clauses_of s.log.steps) → k ≤ length s.log.steps → HasRoomFor (length atoms) clause
     → Checks negation (clauses_of (take k s.log.steps)) clause hints outcome

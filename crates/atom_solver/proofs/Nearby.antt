@@ -21,7 +21,7 @@ use Rattle.std.proofs.lemmas.Bool.{false≢true}
 use Rattle.oracle_face.proofs.GrowingLemmas.{run_none, run_refused}
 use Rattle.session_log.specs.Guards.{IsGuarded}
 use Rattle.session_log.specs.Steps.{LearnsClauses, nothing}
-use Rattle.atom_solver.specs.declared.origin.Origin.{Origin}
+use Rattle.oracle_face.specs.declared.step_source.StepSource.{StepSource}
 use Rattle.atom_solver.specs.Assumed.{AreNear}
 use Rattle.atom_solver.specs.Lifted.{log_over}
 use Rattle.atom_solver.specs.Searches.{HasLooked}
@@ -29,7 +29,7 @@ use Rattle.atom_solver.proofs.Learning.{AreNamed}
 use Rattle.atom_solver.proofs.Running.{looked, near_run, near_refutes, run_memory}
 use Rattle.atom_solver.proofs.Worth.{found_learns}
 
-module _ (atoms : List Atom) (old new : SolverState) (origins : List Origin) (sides : List SideClause)
+module _ (atoms : List Atom) (old new : SolverState) (origins : List StepSource) (sides : List SideClause)
     (different : AreDifferent atoms) (room : HaveRoomFor (length atoms) (clauses_of new.log.steps))
     (form : IsLog new.log) (marked : length origins ≤ length old.log.steps) (derives : Derives old new)
     (named : AreNamed old) (assumed : List Lit) where

@@ -25,7 +25,7 @@ use Rattle.oracle_face.specs.declared.face.Pending.{Pending}
 use Rattle.oracle_face.specs.declared.face.Pending.TheVariants.{Learned}
 use Rattle.oracle_face.specs.Logs.{OracleLog, SideClause, closings_of}
 use Rattle.oracle_face.specs.Growing.{HasRun, NoSide, UnlessMemory, Works, IsStop, halt_of}
-use Rattle.atom_solver.specs.declared.origin.Origin.{Origin}
+use Rattle.oracle_face.specs.declared.step_source.StepSource.{StepSource}
 use Rattle.atom_solver.specs.Assumed.{AreAssumed, AreNear}
 use Rattle.oracle_face.specs.Goals.{RefutesGoals}
 use Rattle.session_log.specs.Guards.{IsGuarded}
@@ -90,7 +90,7 @@ unless_all P (Some (Spent count)) p = p
 unless_all P (Some LogFull) p = p
 unless_all P (Some Memory) p = tt
 
-pub run_memory : (atoms : List Atom) (old new : SolverState) (origins : List Origin) (sides : List SideClause)
+pub run_memory : (atoms : List Atom) (old new : SolverState) (origins : List StepSource) (sides : List SideClause)
     (f : Framework) (pending : Option Pending) (before after : Units) (most : ℕ) → Keeps old new
     → after.limit ≡ before.limit
     → HasRun NoSide most f (log_over atoms old origins sides) (log_over atoms new origins sides) pending before after
@@ -115,7 +115,7 @@ clause_room atoms s clause hints room shown l c =
     (omega (arith, length-map s.log.steps (λ (x : Step). x.clause))) l from.2
 
 -- what is read back of true literals
-told_values : (atoms : List Atom) (s : SolverState) (origins : List Origin) (different : AreDifferent atoms)
+told_values : (atoms : List Atom) (s : SolverState) (origins : List StepSource) (different : AreDifferent atoms)
     (room : HaveRoomFor (length atoms) (clauses_of s.log.steps)) (lits : List Lit)
     → AreValues atoms s origins different room lits (told atoms lits)
 told_values atoms s origins different room lits = record {
@@ -127,7 +127,7 @@ told_values atoms s origins different room lits = record {
       (w.0, kept.0, ltb-true w.0.var (length atoms) kept.1, w.2);
 }
 
-module _ (atoms : List Atom) (old new : SolverState) (origins : List Origin) (sides : List SideClause) (f : Framework)
+module _ (atoms : List Atom) (old new : SolverState) (origins : List StepSource) (sides : List SideClause) (f : Framework)
     (goals : List AtomLit) (assumed : List Lit) (different : AreDifferent atoms)
     (room : HaveRoomFor (length atoms) (clauses_of new.log.steps)) (marked : length origins ≤ length old.log.steps)
     (are : AreAssumed f atoms goals assumed) (named : AreNamed old) (keeps : Keeps old new)
@@ -252,7 +252,7 @@ looked old new assumed step units ends = record {
   ends = ends;
 }
 
-module _ (atoms : List Atom) (old new : SolverState) (origins : List Origin) (sides : List SideClause) (f : Framework)
+module _ (atoms : List Atom) (old new : SolverState) (origins : List StepSource) (sides : List SideClause) (f : Framework)
     (goals : List AtomLit) (assumed : List Lit) (different : AreDifferent atoms)
     (room : HaveRoomFor (length atoms) (clauses_of new.log.steps)) (marked : length origins ≤ length old.log.steps)
     (named : AreNamed old) (keeps : Keeps old new) (step : ℕ) (ends : EndsCore (begun old) new assumed step) where
@@ -307,7 +307,7 @@ halted_no_loop atoms old new assumed before after Memory pending searched kept c
 
 -- ---- parts
 
-pub whole_after : (atoms : List Atom) (old new : SolverState) (origins : List Origin) → IsLifting atoms old origins
+pub whole_after : (atoms : List Atom) (old new : SolverState) (origins : List StepSource) → IsLifting atoms old origins
     → Derives old new → IsLifting atoms new origins
 whole_after atoms old new origins h derives =
     let steps = derives.keeps.more_steps in
@@ -321,7 +321,7 @@ whole_after atoms old new origins h derives =
           (in_use_gives old.active (k + 1) (h.used k name is))));
     }
 
-pub whole_grown : (literals : List AtomLit) (old new : List Atom) (s t : SolverState) (origins : List Origin)
+pub whole_grown : (literals : List AtomLit) (old new : List Atom) (s t : SolverState) (origins : List StepSource)
     → IsLifting old s origins → Extends literals old new → t ≡ s → IsLifting new t origins
 whole_grown literals old new s t origins h grows e =
     let long : length new ≡ length old + length grows.more = ap length grows.is ∙ length-append old grows.more in
@@ -331,7 +331,7 @@ whole_grown literals old new s t origins h grows e =
       used = h.used;
     })
 
-pub log_grown : (literals : List AtomLit) (old new : List Atom) (s t : SolverState) (origins : List Origin)
+pub log_grown : (literals : List AtomLit) (old new : List Atom) (s t : SolverState) (origins : List StepSource)
     (sides : List SideClause) → IsLifting old s origins → Extends literals old new → t ≡ s
     → log_over new t origins sides ≡ log_over old s origins sides
 log_grown literals old new s t origins sides h grows e =
@@ -346,7 +346,7 @@ pub log_kept : (old new : SolverParts) → KeepsInHand old new
 log_kept old new h =
     ap (λ atoms. log_over atoms new.solver new.origins.items new.sides.kept) h.table
     ∙ (ap (λ s. log_over old.table s new.origins.items new.sides.kept) h.solver
-    ∙ (ap (λ (origins : Vec Origin Global). log_over old.table old.solver origins.items new.sides.kept) h.origins
+    ∙ (ap (λ (origins : Vec StepSource Global). log_over old.table old.solver origins.items new.sides.kept) h.origins
     ∙ ap (λ (sides : SideStore). log_over old.table old.solver old.origins.items sides.kept) h.sides))
 
 pub whole_kept : (old new : SolverParts) → KeepsInHand old new → IsLifting old.table old.solver old.origins.items
@@ -354,10 +354,10 @@ pub whole_kept : (old new : SolverParts) → KeepsInHand old new → IsLifting o
 whole_kept old new h whole =
     subst (λ atoms. IsLifting atoms new.solver new.origins.items) (sym h.table)
     (subst (λ s. IsLifting old.table s new.origins.items) (sym h.solver)
-    (subst (λ (origins : Vec Origin Global). IsLifting old.table (begun old.solver) origins.items) (sym h.origins)
+    (subst (λ (origins : Vec StepSource Global). IsLifting old.table (begun old.solver) origins.items) (sym h.origins)
     (record { room = whole.room; marked = whole.marked; used = whole.used })))
 
-pub state_grown : (literals : List AtomLit) (old new : List Atom) (s t : SolverState) (origins : List Origin)
+pub state_grown : (literals : List AtomLit) (old new : List Atom) (s t : SolverState) (origins : List StepSource)
     (sides : List SideClause) (pending : Option Pending) → IsLifting old s origins → Extends literals old new → t ≡ s
     → state_over new t origins sides pending ≡ state_over old s origins sides pending
 state_grown literals old new s t origins sides pending h grows e =

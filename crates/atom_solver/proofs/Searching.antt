@@ -26,7 +26,7 @@ use Rattle.oracle_face.specs.Growing.{Works, IsFurther, NoSide}
 use Rattle.oracle_face.specs.declared.face.Pending.TheVariants.{Learned as InHand}
 use Rattle.session_log.specs.Guards.{IsGuarded}
 use Rattle.session_log.proofs.Closing.{closed_refutes_goals}
-use Rattle.atom_solver.specs.declared.origin.Origin.{Origin}
+use Rattle.oracle_face.specs.declared.step_source.StepSource.{StepSource}
 use Rattle.atom_solver.specs.Searches.{Satisfies}
 use Rattle.atom_solver.specs.Assumed.{of_var, AreAssumed, AreNear}
 use Rattle.atom_solver.specs.Lifted.{atom_at, lit_of, atoms_of, in_use, lifted_at, listed, log_upto, log_over}
@@ -70,7 +70,7 @@ facts_false f atoms goals assumed clause are room unassumed = record {
       (subst (λ p. IsFactValue f (atom_at atoms l.var) p) value is.so);
 }
 
-module _ (atoms : List Atom) (s : SolverState) (origins : List Origin) (different : AreDifferent atoms)
+module _ (atoms : List Atom) (s : SolverState) (origins : List StepSource) (different : AreDifferent atoms)
     (room : HaveRoomFor (length atoms) (clauses_of s.log.steps)) where
   abbrev pub lifted_to : ℕ → List LogStep
   lifted_to k = listed (lifted_at atoms s origins) k
@@ -310,7 +310,7 @@ keeps_left learned new left =
     (derives_derived learned new w.1.clause w.1.hints w.0 w.1.shown (record { log_is = w.1.log_is; next = w.1.next })
     w.1.active_same).keeps) left
 
-pub gained_of : (atoms : List Atom) (old learned new : SolverState) (origins : List Origin)
+pub gained_of : (atoms : List Atom) (old learned new : SolverState) (origins : List StepSource)
     → (different : AreDifferent atoms) (room : HaveRoomFor (length atoms) (clauses_of new.log.steps))
     → (assumed : List Lit) (count : ℕ) → Learns assumed (begun old) learned count → AreNamed old
     → length origins ≤ length old.log.steps → LeavesAs learned new

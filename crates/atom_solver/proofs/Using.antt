@@ -6,21 +6,22 @@ use Rattle.sat_core.specs.Solving.{SolverState}
 use Rattle.meaning_atoms.specs.declared.atom.Atom.{Atom}
 use Rattle.meaning_atoms.specs.declared.axiom.AxiomName.{AxiomName}
 use Rattle.oracle_face.specs.Logs.{LogStep, SideClause, by_axiom, IsNumberOf, step_at}
-use Rattle.atom_solver.specs.declared.origin.Origin.{Origin}
-use Rattle.atom_solver.specs.declared.origin.Origin.TheVariants.{Axiom, Side, Entry, Hints}
-use Rattle.atom_solver.specs.Lifted.{IsLifting, lifted_at, listed, log_over, source_of}
+use Rattle.oracle_face.specs.declared.step_source.StepSource.{StepSource}
+use Rattle.oracle_face.specs.declared.step_source.StepSource.TheVariants.{Axiom, Side, Entry, Hints}
+use Rattle.atom_solver.specs.Lifted.{IsLifting, lifted_at, listed, log_over}
+use Rattle.oracle_face.specs.StepSources.{source_of}
 use Rattle.atom_solver.specs.States.{UsesAxioms}
 use Rattle.atom_solver.proofs.Lifting.{step_lifted}
 use Rattle.atom_solver.proofs.Reading.{step_named}
 
-axiom_origin : (origin : Origin) (hints : List ℕ) (name : AxiomName) → source_of origin hints ≡ by_axiom name
+axiom_origin : (origin : StepSource) (hints : List ℕ) (name : AxiomName) → source_of origin hints ≡ by_axiom name
     → origin ≡ Axiom name
 axiom_origin (Axiom other) hints name is = let same : other ≡ name = cc in ap Axiom same
 axiom_origin (Side n) hints name is = absurd (cc)
 axiom_origin (Entry entry) hints name is = absurd (cc)
 axiom_origin Hints hints name is = absurd (cc)
 
-axiom_kept : (atoms : List Atom) (s : SolverState) (origins : List Origin) (number : ℕ) (name : AxiomName)
+axiom_kept : (atoms : List Atom) (s : SolverState) (origins : List StepSource) (number : ℕ) (name : AxiomName)
     → IsLifting atoms s origins → IsNumberOf (listed (lifted_at atoms s origins) (length s.log.steps)) number
     → (step_at (listed (lifted_at atoms s origins) (length s.log.steps)) number).source ≡ by_axiom name
     → (step_at (listed (lifted_at atoms s origins) (length s.log.steps)) number).closing ≡ not true
@@ -32,7 +33,7 @@ axiom_kept atoms s origins number name whole is source =
     (sym (ap (λ (x : LogStep). x.source) here) ∙ source) in
     ap (λ (x : LogStep). x.closing) here ∙ ap not (whole.used (number - 1) name origin)
 
-pub uses_axioms : (atoms : List Atom) (s : SolverState) (origins : List Origin) (sides : List SideClause)
+pub uses_axioms : (atoms : List Atom) (s : SolverState) (origins : List StepSource) (sides : List SideClause)
     → IsLifting atoms s origins → UsesAxioms (log_over atoms s origins sides)
 uses_axioms atoms s origins sides whole =
     record { kept = λ number name is source. axiom_kept atoms s origins number name whole is source }

@@ -18,7 +18,7 @@ use Rattle.oracle_face.specs.Logs as face
 use Rattle.oracle_face.specs.Logs.{LogStep, SideClause, OracleLog, HasPart}
 use Rattle.oracle_face.specs.Growing.{UnlessMemory}
 use Rattle.session_log.specs.Steps.{IsWorthIt, LearnsClauses, nothing, one_more}
-use Rattle.atom_solver.specs.declared.origin.Origin.{Origin}
+use Rattle.oracle_face.specs.declared.step_source.StepSource.{StepSource}
 use Rattle.atom_solver.specs.Lifted.{lit_of, atoms_of, in_use, lifted_at, listed, log_upto, log_over}
 use Rattle.atom_solver.proofs.Listing.{Contains-listed}
 use Rattle.atom_solver.proofs.Lifting.{in_use_yes, lit_back, room_at}
@@ -33,7 +33,7 @@ abbrev pub HoldsNoneAt : SolverState → ℕ → Type 0
 HoldsNoneAt s k = (number : ℕ) → 0 < number → number ≤ k
     → Holds (get_or s.log.steps k no_step).clause (clause_of s.log.steps number) → ⊥
 
-module _ (atoms : List Atom) (s : SolverState) (origins : List Origin) (different : AreDifferent atoms)
+module _ (atoms : List Atom) (s : SolverState) (origins : List StepSource) (different : AreDifferent atoms)
     (room : HaveRoomFor (length atoms) (clauses_of s.log.steps)) where
   abbrev lifted_of : ℕ → List LogStep
   lifted_of k = listed (lifted_at atoms s origins) k
@@ -135,7 +135,7 @@ left_none learned new k left low high =
 
 -- ---- a whole search
 
-module _ (atoms : List Atom) (old new : SolverState) (origins : List Origin) (sides : List SideClause)
+module _ (atoms : List Atom) (old new : SolverState) (origins : List StepSource) (sides : List SideClause)
     (different : AreDifferent atoms) (room : HaveRoomFor (length atoms) (clauses_of new.log.steps))
     (form : IsLog new.log) (marked : length origins ≤ length old.log.steps) (derives : Derives old new)
     (named : AreNamed old) (assumed : List Lit) where

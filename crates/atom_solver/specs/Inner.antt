@@ -1,7 +1,7 @@
 -- The inner state of a solver over atoms, which no caller sees.
 use Rattle.std.specs.Prelude.{◌≡◌, ℕ, ◌+◌, ◌≤◌, List, [], ◌∷◌, ◌++◌, length, slice_index_or, Option, None, Some}
-use Rattle.atom_solver.specs.declared.origin.Origin.{Origin}
-use Rattle.atom_solver.specs.declared.origin.Origin.TheVariants.{Hints}
+use Rattle.oracle_face.specs.declared.step_source.StepSource.{StepSource}
+use Rattle.oracle_face.specs.declared.step_source.StepSource.TheVariants.{Hints}
 use Rattle.meaning_atoms.specs.declared.atom.Atom.{Atom}
 use Rattle.oracle_face.specs.declared.face.Pending.{Pending as Kept}
 use Rattle.oracle_face.specs.declared.face.Pending.TheVariants.{Learned}
@@ -61,7 +61,7 @@ pub record GainsGiven (clause : List AtomLit) (source : Source) (old new : AtomS
   pub pending_same : new.pending ≡ old.pending
 
 -- so many steps at most have origins of their own, and they have those that they had
-pub record IsFilled (old new : List Origin) (steps : ℕ) : Type 0 where
+pub record IsFilled (old new : List StepSource) (steps : ℕ) : Type 0 where
   pub within : length new ≤ steps
   pub same : (k : ℕ) → slice_index_or new k Hints ≡ slice_index_or old k Hints
 

@@ -12,9 +12,10 @@ use Rattle.meaning_atoms.specs.declared.atom.AtomLit.{AtomLit}
 use Rattle.meaning_atoms.specs.declared.axiom.AxiomName.{AxiomName}
 use Rattle.oracle_face.specs.declared.entry.EntryName.{EntryName}
 use Rattle.oracle_face.specs.declared.face.Pending.{Pending}
-use Rattle.oracle_face.specs.Logs.{OracleLog, LogStep, SideClause, Source, by_axiom, by_side, by_hints}
-use Rattle.atom_solver.specs.declared.origin.Origin.{Origin}
-use Rattle.atom_solver.specs.declared.origin.Origin.TheVariants.{Axiom, Side, Entry, Hints}
+use Rattle.oracle_face.specs.Logs.{OracleLog, LogStep, SideClause}
+use Rattle.oracle_face.specs.StepSources.{imported_of, source_of}
+use Rattle.oracle_face.specs.declared.step_source.StepSource.{StepSource}
+use Rattle.oracle_face.specs.declared.step_source.StepSource.TheVariants.{Axiom, Hints}
 use Rattle.atom_solver.specs.States.{AtomState}
 
 -- the atom of a variable, the literal of a literal, and the clause of a clause
@@ -27,31 +28,12 @@ lit_of atoms l = record { atom = atom_at atoms l.var; positive = l.positive }
 abbrev pub atoms_of : List Atom → List Lit → List AtomLit
 atoms_of atoms clause = map (lit_of atoms) clause
 
--- where a step comes from
-abbrev pub source_of : Origin → List ℕ → Source
-source_of (Axiom name) hints = by_axiom name
-source_of (Side n) hints = by_side n
-source_of (Entry name) hints = by_hints hints
-source_of Hints hints = by_hints hints
-
--- whether a step needs no hints: it is an axiom, or a side clause's
-abbrev pub is_given : Origin → Bool
-is_given (Axiom name) = true
-is_given (Side n) = true
-is_given (Entry name) = false
-is_given Hints = false
-
--- the entry that a step was taken from, if it was
-abbrev pub imported_of : Origin → Option EntryName
-imported_of (Entry name) = Some name
-imported_of _ = None
-
 -- whether the step of a number is in use
 abbrev pub in_use : List ℕ → ℕ → Bool
 in_use active number = list_any (λ n. n == number) active
 
 -- a step that stands for a step; it only ended a search exactly where it isn't in use
-abbrev pub lifted_step : List Atom → Step → Origin → Bool → LogStep
+abbrev pub lifted_step : List Atom → Step → StepSource → Bool → LogStep
 lifted_step atoms step origin used = record {
   clause = atoms_of atoms step.clause;
   source = source_of origin step.hints;
@@ -65,26 +47,26 @@ listed at zero = []
 listed at (suc count) = listed at count ++ at count ∷ []
 
 -- the step that stands for the step at an index; one without an origin follows from its hints
-abbrev pub lifted_at : List Atom → SolverState → List Origin → ℕ → LogStep
+abbrev pub lifted_at : List Atom → SolverState → List StepSource → ℕ → LogStep
 lifted_at atoms s origins k =
     lifted_step atoms (slice_index_or s.log.steps k no_step) (slice_index_or origins k Hints) (in_use s.active (k + 1))
 
 -- the log that so many steps of a solver's log stand for, and the one that all of them do
-abbrev pub log_upto : List Atom → SolverState → List Origin → List SideClause → ℕ → OracleLog
+abbrev pub log_upto : List Atom → SolverState → List StepSource → List SideClause → ℕ → OracleLog
 log_upto atoms s origins sides count = record {
   limit = s.log.limit;
   steps = listed (lifted_at atoms s origins) count;
   sides = sides;
 }
 
-abbrev pub log_over : List Atom → SolverState → List Origin → List SideClause → OracleLog
+abbrev pub log_over : List Atom → SolverState → List StepSource → List SideClause → OracleLog
 log_over atoms s origins sides = log_upto atoms s origins sides (length s.log.steps)
 
-abbrev pub state_over : List Atom → SolverState → List Origin → List SideClause → Option Pending → AtomState
+abbrev pub state_over : List Atom → SolverState → List StepSource → List SideClause → Option Pending → AtomState
 state_over atoms s origins sides pending = record { log = log_over atoms s origins sides; pending = pending }
 
 -- each variable of a clause has an atom, no step that is still to come has an origin, and each axiom is in use
-pub record IsLifting (atoms : List Atom) (s : SolverState) (origins : List Origin) : Type 0 where
+pub record IsLifting (atoms : List Atom) (s : SolverState) (origins : List StepSource) : Type 0 where
   pub room : HaveRoomFor (length atoms) (clauses_of s.log.steps)
   pub marked : length origins ≤ length s.log.steps
   pub used : (k : ℕ) (name : AxiomName) → slice_index_or origins k Hints ≡ Axiom name → in_use s.active (k + 1) ≡ true

@@ -11,13 +11,12 @@ ghost use Rattle.atom_solver.specs.Inner.{IsWhole, state_of};
 ghost use Rattle.atom_solver.specs.Lifted.{atom_at, atoms_of};
 ghost use Rattle.atom_solver.specs.Tables.{told};
 
-use crate::origin::Origin;
 use crate::parts::{SolverParts, fill};
 use atom_table::AtomTable;
 use hinted_log::LogFault;
 use lists::{Items, Memory};
 use meaning_atoms::{Atom, AtomLit};
-use oracle_face::EntryName;
+use oracle_face::{EntryName, StepSource};
 use plain_lits::{Clause, Lit, PackedLit, StepId};
 use sat_core::Added;
 use std::alloc::Global;
@@ -71,7 +70,7 @@ impl SolverParts {
         fill(&mut self.origins, steps)?;
         match self.solver.add(clause, Added::Derived(hints)) {
             Ok(_) => {
-                let _ = self.origins.push(Origin::Entry(name));
+                let _ = self.origins.push(StepSource::Entry(name));
                 Ok(true)
             }
             Err(LogFault::Memory) => Err(Memory),

@@ -4,7 +4,6 @@
 pub(crate) mod importing;
 pub(crate) mod in_hand;
 pub mod kept_side;
-pub mod origin;
 pub(crate) mod parts;
 pub mod searched;
 pub(crate) mod side_table;
@@ -12,6 +11,5 @@ pub mod solver;
 pub(crate) mod tables;
 
 pub use kept_side::KeptSide;
-pub use origin::Origin;
 pub use searched::Searched;
 pub use solver::AtomSolver;

@@ -17,20 +17,20 @@ ghost use Rattle.oracle_face.specs.Logs.{IsNumberOf, hints_of, step_at};
 ghost use Rattle.meaning_atoms.specs.AxiomNames.{IsAxiomName};
 ghost use Rattle.oracle_face.specs.declared.face.Pending.TheVariants.{Loop as OfLoop, Side as OfSide};
 ghost use Rattle.atom_solver.specs.Sides.{HasNoSide, IsNowhere, IsOrdered, IsSideOf};
-ghost use Rattle.atom_solver.specs.declared.origin.Origin.TheVariants.{Hints};
+ghost use Rattle.oracle_face.specs.declared.step_source.StepSource.TheVariants.{Hints};
 ghost use Rattle.atom_solver.specs.Assumed.{AreAssumed, AreNear};
 ghost use Rattle.atom_solver.specs.Inner.{state_of, GainsGiven, IsFilled, IsKept, IsWhole};
 ghost use Rattle.atom_solver.specs.Inner.{KeepsInHand, KeepsSide, NeedsNoHints, StopsUnit, Tells};
 ghost use Rattle.atom_solver.specs.Searches.{IsAnswer, AreUnfixed, HasLooked, ends_in};
 ghost use Rattle.oracle_face.specs.Goals.{RefutesGoals};
 ghost use Rattle.plain_lits.specs.Units.{Units};
-ghost use Rattle.atom_solver.specs.Lifted.{atoms_of, imported_of, is_given, source_of};
+ghost use Rattle.atom_solver.specs.Lifted.{atoms_of};
+ghost use Rattle.oracle_face.specs.StepSources.{imported_of, is_given, source_of};
 ghost use Rattle.atom_solver.specs.States.{AddsAxiom, IsGuardedLog, IsNoLoop, StaysLog, TakesSideOf, empty_state};
 ghost use Rattle.session_log.specs.Steps.{LearnsClauses};
 ghost use Rattle.atom_solver.specs.Tables.{StandsFor};
 
 use crate::kept_side::{guarded_literals, in_order, number_at};
-use crate::origin::Origin;
 use crate::searched::Searched;
 use crate::side_table::SideTable;
 use crate::tables::{
@@ -42,7 +42,7 @@ use certificate_claims::clause_of_axiom;
 use hinted_log::{LogFault, MAX_STEPS};
 use lists::{Items, Memory};
 use meaning_atoms::{Atom, AtomLit, AxiomName};
-use oracle_face::{AskId, Encoding, Pending};
+use oracle_face::{AskId, Encoding, Pending, StepSource};
 use plain_lits::{Budget, Clause, Halt, Lit, StepId};
 use sat_core::{Added, Solved, Solver};
 use set_lists::NumSet;
@@ -54,7 +54,7 @@ pub(crate) struct SolverParts {
     pub(crate) table: AtomTable,
     pub(crate) solver: Solver,
     /// Where the first steps come from; all others follow from their hints.
-    pub(crate) origins: Vec<Origin>,
+    pub(crate) origins: Vec<StepSource>,
     pub(crate) sides: SideTable,
     pub(crate) pending: Option<Pending>,
     /// The assumptions of the last search, and room for those of the next.
@@ -64,14 +64,14 @@ pub(crate) struct SolverParts {
 }
 
 /// Says of all steps so far where they come from, and makes room for one more.
-pub(crate) fn fill(origins: &mut Vec<Origin>, steps: usize) -> Result<(), Memory>
+pub(crate) fn fill(origins: &mut Vec<StepSource>, steps: usize) -> Result<(), Memory>
     requires { length origins.old.items ≤ steps }
     ensures filled { IsFilled origins.old.items origins.new.items steps }
     ensures ok { OnOk result (length origins.new.items ≡ steps) }
     ensures room { OnOk result (vec_len origins.new < vec_capacity origins.new) }
 {
     while origins.len() < steps {
-        origins.push(Origin::Hints)?;
+        origins.push(StepSource::Hints)?;
     }
     origins.reserve(1)?;
     Ok(())
@@ -128,7 +128,7 @@ impl SolverParts {
     }
 
     /// Adds a clause that is given, with where it comes from.
-    fn add_given(&mut self, clause: Clause, how: Added, origin: Origin) -> Result<(), Halt>
+    fn add_given(&mut self, clause: Clause, how: Added, origin: StepSource) -> Result<(), Halt>
         requires whole { IsWhole self.old }
         requires room { HasRoomFor (length self.old.table) clause }
         requires how { NeedsNoHints how }
@@ -171,7 +171,7 @@ impl SolverParts {
         }
         let literals = clause_of_axiom(alloc, &name)?;
         let clause = self.stand_for(alloc, literals.as_slice())?;
-        self.add_given(clause, Added::Axiom, Origin::Axiom(name))
+        self.add_given(clause, Added::Axiom, StepSource::Axiom(name))
     }
 
     /// Takes a loop clause, for which a unit is spent.
@@ -236,7 +236,7 @@ impl SolverParts {
         let clause = self.stand_for(alloc, guarded.as_slice())?;
         prefer_attacks(&self.table, &mut self.solver, self.given.as_slice())?;
         self.sides.make_room()?;
-        self.add_given(clause, Added::Side, Origin::Side(number))?;
+        self.add_given(clause, Added::Side, StepSource::Side(number))?;
         self.sides.push(literals, set);
         Ok(number)
     }
@@ -312,14 +312,14 @@ impl SolverParts {
     }
 
     /// Where a step comes from.
-    pub(crate) fn origin(&self, alloc: Global, step: StepId) -> Result<Origin, Memory>
+    pub(crate) fn origin(&self, alloc: Global, step: StepId) -> Result<StepSource, Memory>
         requires { 0 < step }
         ensures { IfOk result (λ origin. origin ≡ slice_index_or self.now.origins.items (step - 1) Hints) }
     {
         let index = step.number() as usize - 1;
         match self.origins.get(index) {
             Some(origin) => origin.copy(alloc),
-            None => Ok(Origin::Hints),
+            None => Ok(StepSource::Hints),
         }
     }
 

@@ -18,18 +18,17 @@ ghost use Rattle.atom_solver.specs.States.{empty_log};
 ghost use Rattle.session_log.specs.Steps.{LearnsClauses};
 ghost use Rattle.atom_solver.specs.Searches.{IsAnswer, AreUnfixed, ends_in};
 ghost use Rattle.atom_solver.specs.Imported.{IsImported, IsPlain};
-ghost use Rattle.atom_solver.specs.Lifted.{imported_of, source_of};
+ghost use Rattle.oracle_face.specs.StepSources.{imported_of, source_of};
 ghost use Rattle.atom_solver.specs.Sides.{HasNoSide, IsSideOf};
 
 use crate::in_hand::copy_of;
 use crate::kept_side::KeptSide;
-use crate::origin::Origin;
 use crate::parts::SolverParts;
 use crate::searched::Searched;
 use hinted_log::MAX_STEPS;
 use lists::{Items, Memory};
 use meaning_atoms::{AtomLit, AxiomName};
-use oracle_face::{AskId, Encoding, EntryName, Pending};
+use oracle_face::{AskId, Encoding, EntryName, Pending, StepSource};
 use plain_lits::{Budget, Halt, StepId};
 use set_lists::NumSet;
 use std::alloc::Global;
@@ -215,7 +214,7 @@ impl AtomSolver {
     }
 
     /// Where a step comes from.
-    pub fn origin(&self, alloc: Global, step: StepId) -> Result<Origin, Memory>
+    pub fn origin(&self, alloc: Global, step: StepId) -> Result<StepSource, Memory>
         requires { IsNumberOf self.now.log.steps step }
         ensures source { IfOk result (λ origin. (step_at self.now.log.steps step).source
             ≡ source_of origin (hints_of (step_at self.now.log.steps step).source)) }

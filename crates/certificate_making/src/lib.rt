@@ -11,5 +11,5 @@ mod renumbering;
 
 pub use making::certificate_for;
 pub use positions::positions_of;
-pub use read_log::{ReadLog, StepOrigin};
+pub use read_log::ReadLog;
 pub use refute::refutation;

@@ -7,18 +7,10 @@ ghost use Rattle.certificate_making.specs.ClaimSides.{IsAskOf};
 ghost use Rattle.certificate_making.specs.Origins.{IsOrigin};
 
 use lists::{Items, Memory};
-use meaning_atoms::{AtomLit, AxiomName};
-use oracle_face::AskId;
+use meaning_atoms::AtomLit;
+use oracle_face::{AskId, StepSource};
 use plain_lits::StepId;
 use std::alloc::Global;
-
-/// Where a step comes from: it is an axiom's or a side clause's, or it follows from other steps.
-#[derive(Drop)]
-pub enum StepOrigin {
-    Axiom(AxiomName),
-    Side(AskId),
-    Derived,
-}
 
 /// A log that can be read step by step. It means the framework and the log, which is guarded.
 pub trait ReadLog {
@@ -42,7 +34,7 @@ pub trait ReadLog {
         ensures { IfOk result (λ clause. IsSameClause clause (step_at (log self.now).steps step).clause) };
 
     /// Where a step comes from.
-    fn origin(&self, alloc: Global, step: StepId) -> Result<StepOrigin, Memory>
+    fn origin(&self, alloc: Global, step: StepId) -> Result<StepSource, Memory>
         requires { IsNumberOf (log self.now).steps step }
         ensures { IfOk result (IsOrigin (step_at (log self.now).steps step).source) };
 

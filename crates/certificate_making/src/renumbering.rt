@@ -4,10 +4,11 @@ ghost use Rattle.std.specs.Prelude.{◌≡◌, ◌<◌, ℕ, length, map, Contai
 ghost use Rattle.oracle_face.specs.Logs.{IsLog, IsNumberOf, hints_of, step_at};
 ghost use Rattle.certificate_making.specs.Trimmed.{IsMovedDerived, IsMovedStep, moved_lit, number_in, position_of};
 
-use crate::read_log::{ReadLog, StepOrigin};
+use crate::read_log::ReadLog;
 use certificate_claims::Step;
 use lists::{Items, Memory};
 use meaning_atoms::{Atom, AtomLit};
+use oracle_face::StepSource;
 use plain_lits::StepId;
 use std::alloc::Global;
 
@@ -91,8 +92,8 @@ pub(crate) fn moved_step<L: ReadLog>(
         (step_at (L.log log.now).steps step).clause) }
 {
     match log.origin(alloc, step)? {
-        StepOrigin::Axiom(name) => Ok(Step::Axiom(name)),
-        StepOrigin::Side(side) => Ok(Step::Side(position(positions, side.number()))),
-        StepOrigin::Derived => moved_derived(alloc, log, step, positions, numbers),
+        StepSource::Axiom(name) => Ok(Step::Axiom(name)),
+        StepSource::Side(side) => Ok(Step::Side(position(positions, side.number()))),
+        StepSource::Entry(_) | StepSource::Hints => moved_derived(alloc, log, step, positions, numbers),
     }
 }

@@ -5,9 +5,9 @@ use Rattle.std.proofs.lemmas.Bool.{cases_lt, cases_Bool, false≢true}
 use Rattle.std.proofs.lemmas.List.{get_or_append_left, length-append}
 use Rattle.oracle_face.specs.Growing.{Making, Grows}
 use Rattle.oracle_face.specs.Logs.{OracleLog, LogStep, by_axiom, no_step, step_at}
-use Rattle.atom_solver.specs.declared.origin.Origin.{Origin}
-use Rattle.atom_solver.specs.declared.origin.Origin.TheVariants.{Axiom as OfAxiom, Side as OfSide, Entry as OfEntry, Hints}
-use Rattle.atom_solver.specs.Lifted.{imported_of, source_of}
+use Rattle.oracle_face.specs.declared.step_source.StepSource.{StepSource}
+use Rattle.oracle_face.specs.declared.step_source.StepSource.TheVariants.{Axiom as OfAxiom, Side as OfSide, Entry as OfEntry, Hints}
+use Rattle.oracle_face.specs.StepSources.{imported_of, source_of}
 use Rattle.entry_taking.specs.declared.names.StepName.{StepName}
 use Rattle.entry_taking.specs.declared.names.StepName.TheVariants.{Axiom, Entry}
 use Rattle.entry_taking.specs.declared.names.StepNames.{StepNames}
@@ -73,7 +73,7 @@ put_one name step old new seen none told =
 -- ---- one step more
 
 -- a step is called as its origin says
-called_by : (origin : Origin) (name : StepName) (step : LogStep) (hints : List ℕ)
+called_by : (origin : StepSource) (name : StepName) (step : LogStep) (hints : List ℕ)
     → step.source ≡ source_of origin hints → step.imported ≡ imported_of origin → IsCalledSo name step
     → name_of origin ≡ Some name
 called_by (OfAxiom a) (Axiom b) step hints source imported called =
@@ -87,7 +87,7 @@ called_by (OfEntry a) (Entry s n) step hints source imported called =
 called_by Hints (Axiom b) step hints source imported called = let e = sym source ∙ called in absurd (cc)
 called_by Hints (Entry s n) step hints source imported called = let e = sym imported ∙ called in absurd (cc)
 
-calls_so : (origin : Origin) (name : StepName) (step : LogStep) (hints : List ℕ)
+calls_so : (origin : StepSource) (name : StepName) (step : LogStep) (hints : List ℕ)
     → step.source ≡ source_of origin hints → step.imported ≡ imported_of origin → name_of origin ≡ Some name
     → IsCalledSo name step
 calls_so (OfAxiom a) (Axiom b) step hints source imported is =
@@ -118,7 +118,7 @@ first_longer steps seen name k h =
           (λ early. h.first other from (omega arith) called) (λ late. omega arith) (cases_lt other (seen + 1));
     }
 
-module _ (origin : Origin) (old new : StepNames) (steps : List LogStep) (hints : List ℕ)
+module _ (origin : StepSource) (old new : StepNames) (steps : List LogStep) (hints : List ℕ)
     (within : old.seen < length steps) (named : AreNamed old steps) (noted : IsNoted origin (old.seen + 1) old new)
     (source : (step_at steps (old.seen + 1)).source ≡ source_of origin hints)
     (imported : (step_at steps (old.seen + 1)).imported ≡ imported_of origin) where

@@ -2,8 +2,8 @@
 use Rattle.std.specs.Prelude.{◌≡◌, ℕ, ◌+◌, ◌<◌, ◌≤◌, List, length, Option, Some, None}
 use Rattle.indexmap.specs.IndexMap.{get}
 use Rattle.oracle_face.specs.Logs.{LogStep, by_axiom, step_at}
-use Rattle.atom_solver.specs.declared.origin.Origin.{Origin}
-use Rattle.atom_solver.specs.declared.origin.Origin.TheVariants.{Axiom as OfAxiom, Entry as OfEntry}
+use Rattle.oracle_face.specs.declared.step_source.StepSource.{StepSource}
+use Rattle.oracle_face.specs.declared.step_source.StepSource.TheVariants.{Axiom as OfAxiom, Entry as OfEntry}
 use Rattle.entry_taking.specs.declared.names.StepName.{StepName}
 use Rattle.entry_taking.specs.declared.names.StepName.TheVariants.{Axiom, Entry}
 use Rattle.entry_taking.specs.declared.names.StepNames.{StepNames}
@@ -27,7 +27,7 @@ IsFirstOf steps seen name (Some number) = IsFirstCalled steps seen name number
 IsFirstOf steps seen name None = (number : ℕ) → 0 < number → number ≤ seen → IsCalledSo name (step_at steps number) → ⊥
 
 -- what a step from there is called by, if it has a name
-abbrev pub name_of : Origin → Option StepName
+abbrev pub name_of : StepSource → Option StepName
 name_of (OfAxiom name) = Some (Axiom name)
 name_of (OfEntry name) = Some (Entry name.session name.step)
 name_of _ = None
@@ -49,7 +49,7 @@ pub record IsPut (by : Option StepName) (step : ℕ) (old new : StepNames) : Typ
   pub others : (name : StepName) → told_of old name ≡ None → (by ≡ Some name → ⊥) → told_of new name ≡ None
 
 -- one step more was looked at: its name is told where it wasn't told before
-pub record IsNoted (origin : Origin) (step : ℕ) (old new : StepNames) : Type 0 where
+pub record IsNoted (origin : StepSource) (step : ℕ) (old new : StepNames) : Type 0 where
   pub seen : new.seen ≡ old.seen + 1
   pub kept : (name : StepName) (number : ℕ) → told_of old name ≡ Some number → told_of new name ≡ Some number
   pub gained : (name : StepName) → told_of old name ≡ None → name_of origin ≡ Some name → told_of new name ≡ Some step

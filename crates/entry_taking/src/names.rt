@@ -6,7 +6,8 @@ ghost use Rattle.entry_taking.specs.Names.{AreNamed, IsNoted, IsPut, IsSameNames
 ghost use Rattle.entry_taking.specs.declared.names.StepName.TheVariants.{Axiom};
 
 use crate::name_digest::digest_of;
-use atom_solver::{AtomSolver, Origin};
+use atom_solver::AtomSolver;
+use oracle_face::StepSource;
 use indexmap::IndexMap;
 use lists::Memory;
 use meaning_atoms::AxiomName;
@@ -55,13 +56,13 @@ impl Drop for StepNames {
 }
 
 /// What a step from there is called by.
-fn name_of(origin: Origin) -> Option<StepName>
+fn name_of(origin: StepSource) -> Option<StepName>
     ensures { result ≡ names.name_of origin }
 {
     match origin {
-        Origin::Axiom(name) => Some(StepName::Axiom(name)),
-        Origin::Entry(name) => Some(StepName::Entry(name.session, name.step)),
-        Origin::Side(_) | Origin::Hints => None,
+        StepSource::Axiom(name) => Some(StepName::Axiom(name)),
+        StepSource::Entry(name) => Some(StepName::Entry(name.session, name.step)),
+        StepSource::Side(_) | StepSource::Hints => None,
     }
 }
 
@@ -120,7 +121,7 @@ impl StepNames {
     }
 
     /// Looks at one step more.
-    fn note(&mut self, origin: Origin, step: StepId) -> Result<(), Memory>
+    fn note(&mut self, origin: StepSource, step: StepId) -> Result<(), Memory>
         requires { step ≡ self.old.seen + 1 }
         ensures noted { OnOk result (IsNoted origin step self.old self.new) }
         ensures err { OnErr result (IsSameNames self.old self.new) }

@@ -10,7 +10,7 @@ ghost use Rattle.oracle_face.specs.Logs.{IsSameClause, is_loop};
 ghost use Rattle.oracle_face.specs.declared.entry.Entry.{Entry as AnEntry};
 ghost use Rattle.oracle_face.specs.declared.entry.EntryOrigin.TheVariants.{Axiom, Hints};
 ghost use Rattle.oracle_face.specs.declared.entry.HintName.TheVariants.{Entry as OfEntry};
-ghost use Rattle.atom_solver.specs.Lifted.{imported_of};
+ghost use Rattle.oracle_face.specs.StepSources.{imported_of};
 ghost use Rattle.session_log.specs.OwnSteps.{IsNamedByGiven, OwnStep};
 ghost use Rattle.entry_taking.specs.Names.{AreNamed};
 ghost use Rattle.entry_taking.specs.Taking.{AreFound, ComesIn, ImportsOrMayNot, GoesOn, IsCalledFirst, IsFound};
@@ -18,12 +18,12 @@ ghost use Rattle.entry_taking.specs.Taking.{IsKnown};
 ghost use Rattle.entry_taking.specs.Taking.{IsLooked, IsOfAxiom, IsOwn, MayCome, is_of_aba};
 
 use crate::names::{StepName, StepNames};
-use atom_solver::{AtomSolver, Origin};
+use atom_solver::AtomSolver;
 use certificate_claims::clause_of_axiom;
 use lists::{Items, Memory};
 use meaning_atoms::laws::literals_are_equal;
 use meaning_atoms::{AbaAxiom, AtomLit, AxiomName};
-use oracle_face::{Entry, EntryName, EntryOrigin, HintName};
+use oracle_face::{Entry, EntryName, EntryOrigin, HintName, StepSource};
 use plain_lits::{Halt, StepId};
 use std::alloc::Global;
 
@@ -41,13 +41,13 @@ fn own_step(alloc: Global, solver: &AtomSolver, step: StepId) -> Result<Option<S
 }
 
 /// A step, unless it comes from an entry.
-fn unless_entry(origin: Origin, step: StepId) -> Option<StepId>
+fn unless_entry(origin: StepSource, step: StepId) -> Option<StepId>
     ensures some { IfSome result (λ found. (found ≡ step) × (imported_of origin ≡ None)) }
     ensures none { IfNone result (imported_of origin ≢ None) }
 {
     match origin {
-        Origin::Entry(_) => None,
-        Origin::Axiom(_) | Origin::Side(_) | Origin::Hints => Some(step),
+        StepSource::Entry(_) => None,
+        StepSource::Axiom(_) | StepSource::Side(_) | StepSource::Hints => Some(step),
     }
 }
 

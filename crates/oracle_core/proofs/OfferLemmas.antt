@@ -16,7 +16,7 @@ use Rattle.oracle_face.specs.Entries.{IsShareable}
 use Rattle.oracle_face.specs.Logs.{OracleLog, LogStep, IsNumberOf, step_at}
 use Rattle.session_log.proofs.StepWorlds.{step_shared}
 use Rattle.atom_solver.specs.States.{IsGuardedLog}
-use Rattle.atom_solver.specs.declared.origin.Origin.TheVariants.{Axiom as OfAxiom, Entry as FromEntry, Hints as ByHints}
+use Rattle.oracle_face.specs.declared.step_source.StepSource.TheVariants.{Axiom as OfAxiom, Entry as FromEntry, Hints as ByHints}
 use Rattle.session_log.specs.Imports.{name_by_source, name_in_log}
 use Rattle.oracle_core.specs.Sharing.{AreNamesOf, CallsAny, IsEntryOf, IsNamedAs}
 

@@ -6,22 +6,11 @@ use Rattle.semantics.specs.Frameworks.{Framework}
 use Rattle.iccma_tasks.specs.Tasks.{Asked}
 use Rattle.edit_rules.specs.Fitting.{Fits, IsFaultOf}
 use Rattle.oracle_face.specs.Logs.{OracleLog}
-use Rattle.atom_solver.specs.declared.origin.Origin.{Origin}
-use Rattle.atom_solver.specs.declared.origin.Origin.TheVariants.{Axiom, Side, Entry, Hints}
-use Rattle.certificate_making.specs.declared.read_log.StepOrigin.{StepOrigin}
-use Rattle.certificate_making.specs.declared.read_log.StepOrigin.TheVariants.{Axiom as OfAxiom, Side as OfSide, Derived}
 use Rattle.session_log.specs.Ends.{is_by_grounded}
 use Rattle.query_answers.specs.Answers.{AreTooMany}
 use Rattle.oracle_core.specs.declared.reply.Answered.{Answered}
 use Rattle.oracle_core.specs.declared.reply.AnswerStop.{AnswerStop}
 use Rattle.oracle_core.specs.declared.reply.AnswerStop.TheVariants.{Query, Spent, TooMany, LogFull, Memory}
-
--- where a step comes from, as a certificate tells it
-abbrev pub told_origin : Origin → StepOrigin
-told_origin (Axiom name) = OfAxiom name
-told_origin (Side n) = OfSide n
-told_origin (Entry name) = Derived
-told_origin Hints = Derived
 
 -- the stop that a halt comes to
 abbrev pub stop_of : Halt → AnswerStop

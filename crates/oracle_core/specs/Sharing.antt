@@ -4,9 +4,9 @@ use Rattle.oracle_face.specs.declared.entry.Entry.{Entry}
 use Rattle.oracle_face.specs.declared.entry.EntryOrigin.TheVariants.{Hints}
 use Rattle.oracle_face.specs.declared.entry.HintName.{HintName}
 use Rattle.oracle_face.specs.Logs.{LogStep, by_hints, hints_of, step_at}
-use Rattle.atom_solver.specs.declared.origin.Origin.{Origin}
+use Rattle.oracle_face.specs.declared.step_source.StepSource.{StepSource}
 use Rattle.atom_solver.specs.Imported.{IsPlain}
-use Rattle.atom_solver.specs.Lifted.{imported_of, source_of}
+use Rattle.oracle_face.specs.StepSources.{imported_of, source_of}
 use Rattle.session_log.specs.Imports.{IsCalled, name_in_log}
 
 -- the step may go to others: it wasn't taken from an entry, follows from other steps, didn't only end a search, and asks
@@ -22,7 +22,7 @@ pub record IsNamedAs (own : ℕ) (name : HintName) (number : ℕ) (step : LogSte
   pub same : name ≡ name_in_log own number step.imported step.source
 
 -- so it is of every step of the number that comes from there
-abbrev pub CallsAny : ℕ → Origin → ℕ → HintName → Type 0
+abbrev pub CallsAny : ℕ → StepSource → ℕ → HintName → Type 0
 CallsAny own origin number name =
     (step : LogStep) → step.source ≡ source_of origin (hints_of step.source) → step.imported ≡ imported_of origin
     → IsNamedAs own name number step

@@ -6,17 +6,15 @@ ghost use Rattle.certificate_claims.specs.Rights.{Accepts};
 ghost use Rattle.edit_rules.specs.Kinds.{framework_of};
 ghost use Rattle.hinted_log.specs.declared.log.TheConstants.{MAX_STEPS};
 ghost use Rattle.atom_solver.specs.States.{empty_log};
-ghost use Rattle.oracle_core.specs.Answering.{told_origin};
 
 use crate::parts::{EngineParts, admissible_part_of, is_aba, range_of};
 use aba_notions::AbaPlain;
-use atom_solver::Origin;
-use certificate_making::{ReadLog, StepOrigin};
+use certificate_making::ReadLog;
 use edit_rules::Framework;
 use hinted_log::MAX_STEPS;
 use lists::{Items, Memory};
 use meaning_atoms::AtomLit;
-use oracle_face::{AskId, Found, Oracle, Pending};
+use oracle_face::{AskId, Found, Oracle, Pending, StepSource};
 use plain_lits::{Budget, Halt, StepId};
 use set_lists::NumSet;
 use std::alloc::Global;
@@ -181,17 +179,6 @@ impl Oracle for Engine {
     ghost joins = { λ before between after first second. second ∙ first };
 }
 
-/// Where a step comes from, as a certificate tells it.
-fn told(origin: Origin) -> StepOrigin
-    ensures { result ≡ told_origin origin }
-{
-    match origin {
-        Origin::Axiom(name) => StepOrigin::Axiom(name),
-        Origin::Side(side) => StepOrigin::Side(side),
-        Origin::Entry(_) | Origin::Hints => StepOrigin::Derived,
-    }
-}
-
 impl ReadLog for Engine {
     ghost framework = { λ e. e.framework };
 
@@ -205,9 +192,8 @@ impl ReadLog for Engine {
         self.parts.solver.clause(alloc, step)
     }
 
-    fn origin(&self, alloc: Global, step: StepId) -> Result<StepOrigin, Memory> {
-        let origin = self.parts.solver.origin(alloc, step)?;
-        Ok(told(origin))
+    fn origin(&self, alloc: Global, step: StepId) -> Result<StepSource, Memory> {
+        self.parts.solver.origin(alloc, step)
     }
 
     fn hints(&self, step: StepId) -> &[StepId] {

@@ -1,17 +1,17 @@
 //! Clauses that an engine hands to others.
 
 ghost use Rattle.std.specs.Prelude.{◌≡◌, ℕ, List, IfOk, IfSome, IsTrue, None};
-ghost use Rattle.atom_solver.specs.Lifted.{imported_of, source_of};
-ghost use Rattle.atom_solver.specs.declared.origin.Origin.TheVariants.{Entry as OfEntry};
+ghost use Rattle.oracle_face.specs.StepSources.{imported_of, source_of};
+ghost use Rattle.oracle_face.specs.declared.step_source.StepSource.TheVariants.{Entry as OfEntry};
 ghost use Rattle.oracle_face.specs.Logs.{IsNumberOf, by_hints, step_at};
 ghost use Rattle.oracle_core.specs.Engines.{IsWhole};
 ghost use Rattle.oracle_core.specs.Sharing.{AreNamesOf, CallsAny, IsEntryOf, IsNamedAs, IsShareableStep};
 
 use crate::engine::Engine;
 use crate::parts::EngineParts;
-use atom_solver::{AtomSolver, Origin};
+use atom_solver::AtomSolver;
 use lists::{Items, Memory};
-use oracle_face::{ClauseTrade, Entry, EntryName, EntryOrigin, HintName};
+use oracle_face::{ClauseTrade, Entry, EntryName, EntryOrigin, HintName, StepSource};
 use plain_lits::StepId;
 use std::alloc::Global;
 
@@ -31,14 +31,14 @@ fn remote_reference(own: u32, name: EntryName) -> Option<HintName>
 }
 
 /// What entries of the session of the number `own` call a step that comes from there; None where they don't name it.
-fn reference_to(own: u32, origin: Origin, step: StepId) -> Option<HintName>
+fn reference_to(own: u32, origin: StepSource, step: StepId) -> Option<HintName>
     ensures { IfSome result (CallsAny own origin step) }
 {
     match origin {
-        Origin::Axiom(name) => Some(HintName::Axiom(name)),
-        Origin::Side(_) => None,
-        Origin::Entry(name) => remote_reference(own, name),
-        Origin::Hints => Some(HintName::Entry(EntryName { session: own, step })),
+        StepSource::Axiom(name) => Some(HintName::Axiom(name)),
+        StepSource::Side(_) => None,
+        StepSource::Entry(name) => remote_reference(own, name),
+        StepSource::Hints => Some(HintName::Entry(EntryName { session: own, step })),
     }
 }
 
@@ -80,11 +80,11 @@ fn step_references(
 }
 
 /// Whether what comes from there is one's own and follows from other steps.
-fn is_derived(origin: &Origin) -> bool
+fn is_derived(origin: &StepSource) -> bool
     ensures own { IsTrue result → imported_of origin.now ≡ None }
     ensures derived { IsTrue result → (hints : List ℕ) → source_of origin.now hints ≡ by_hints hints }
 {
-    matches!(origin, Origin::Hints)
+    matches!(origin, StepSource::Hints)
 }
 
 /// Whether a step may go to others: it is one's own, follows from other steps, which are few, didn't only end a search,
@@ -203,11 +203,11 @@ impl Engine {
 }
 
 /// The name of the entry that something comes from.
-fn entry_name(origin: &Origin) -> Option<EntryName>
+fn entry_name(origin: &StepSource) -> Option<EntryName>
     ensures { result ≡ imported_of origin.now }
 {
     match origin {
-        Origin::Entry(name) => Some(*name),
+        StepSource::Entry(name) => Some(*name),
         _ => None,
     }
 }

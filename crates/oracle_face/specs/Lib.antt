@@ -8,6 +8,7 @@ pub mod Laws
 pub mod Logs
 pub mod Needed
 pub mod Parts
+pub mod StepSources
 pub mod Trades
 pub mod Walks
 pub use Rattle.certificate_claims as certificate_claims

@@ -7,6 +7,7 @@ pub mod entry;
 pub mod face;
 pub mod laws;
 pub mod oracle;
+pub mod step_source;
 pub mod trade;
 
 pub use encoding::Encoding;
@@ -14,4 +15,5 @@ pub use entry::{Entry, EntryName, EntryOrigin, HintName};
 pub use face::{AskId, Found, Pending};
 pub use oracle::Oracle;
 pub use plain_lits::{Budget, Halt, StepId};
+pub use step_source::StepSource;
 pub use trade::{ClauseTrade, NoTrade};

@@ -1,5 +1,5 @@
 use Rattle.std.proofs.Common.{◌≡◌, ◌<◌, ◌++◌, ◌∷◌, [], length, rules, sym, subst}
-use Rattle.atom_solver.specs.declared.origin.Origin.TheVariants.{Hints}
+use Rattle.oracle_face.specs.declared.step_source.StepSource.TheVariants.{Hints}
 use Rattle.atom_solver.specs.Inner.{IsFilled}
 use Rattle.atom_solver.proofs.Giving.{filled_more}
 use Rattle.atom_solver.proofs.parts.fill.Goals as goal

@@ -1,6 +1,6 @@
 use Rattle.std.proofs.Common.{◌≡◌, ◌++◌, ◌∷◌, [], ◌<◌, length, rules, ap, subst, ◌∙◌, ⊎_elim, arith}
 use Rattle.std.proofs.lemmas.Bool.{cases_lt}
-use Rattle.atom_solver.specs.declared.origin.Origin.TheVariants.{Entry}
+use Rattle.oracle_face.specs.declared.step_source.StepSource.TheVariants.{Entry}
 use Rattle.hinted_log.specs.declared.fault.LogFault.TheVariants.{Memory}
 use Rattle.atom_solver.specs.Inner.{IsFilled}
 use Rattle.atom_solver.proofs.Giving.{filled_state, filled_whole, ok_not_full, refused}

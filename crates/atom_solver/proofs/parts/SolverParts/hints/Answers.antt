@@ -1,5 +1,5 @@
 use Rattle.std.proofs.Common.{refl, get_or, ◌-◌, sym, ◌∙◌}
-use Rattle.atom_solver.specs.declared.origin.Origin.TheVariants.{Hints}
+use Rattle.oracle_face.specs.declared.step_source.StepSource.TheVariants.{Hints}
 use Rattle.atom_solver.proofs.Reading.{given_none, given_some, step_named, hints_none, hints_read}
 use Rattle.atom_solver.proofs.parts.SolverParts.hints.Goals as goal
 

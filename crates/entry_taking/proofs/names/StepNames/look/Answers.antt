@@ -1,6 +1,6 @@
 use Rattle.std.proofs.Common.{◌≡◌, ◌+◌, ◌<◌, subst, length}
 use Rattle.oracle_face.specs.Logs.{hints_of, step_at}
-use Rattle.atom_solver.specs.Lifted.{imported_of, source_of}
+use Rattle.oracle_face.specs.StepSources.{imported_of, source_of}
 use Rattle.entry_taking.specs.Names.{IsNoted}
 use Rattle.entry_taking.proofs.Naming.{named_more}
 use Rattle.entry_taking.proofs.names.StepNames.look.Goals as goal
