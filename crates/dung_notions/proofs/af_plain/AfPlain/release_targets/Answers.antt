@@ -3,27 +3,17 @@ use Rattle.dung_notions.specs.Search.{ReleasesOne}
 use Rattle.dung_notions.proofs.SearchLemmas.{next_counts, next_releases, grows_twice, grows_released}
 use Rattle.dung_notions.proofs.af_plain.AfPlain.release_targets.Goals as goal
 
-pub release-requires-clause-within : goal.release-requires-clause-within
-release-requires-clause-within c = rw c.as_slice.ensures.value
-    (next_counts c.args.self.now c.requires.form.form _ _ _ c.loop-index.search.pending.items c.loop-index.index
-    c.loop-index.invariant.0 (omega (
+pub release-requires : goal.release-requires
+release-requires c =
+    let counts = next_counts c.args.self.now c.requires.form.form _ _ _ c.loop-index.search.pending.items
+    c.loop-index.index c.loop-index.invariant.0 (omega (
       arith,
       c.loop-index-test.true,
       c.len-index-end.ensures,
       c.args.search.now.pending.ok.0,
       ap length c.loop-index.invariant.2,
-    ))).0
-
-pub release-requires-clause-counted : goal.release-requires-clause-counted
-release-requires-clause-counted c = rw c.as_slice.ensures.value
-    (next_counts c.args.self.now c.requires.form.form _ _ _ c.loop-index.search.pending.items c.loop-index.index
-    c.loop-index.invariant.0 (omega (
-      arith,
-      c.loop-index-test.true,
-      c.len-index-end.ensures,
-      c.args.search.now.pending.ok.0,
-      ap length c.loop-index.invariant.2,
-    ))).1
+    )) in
+    record { within = rw c.as_slice.ensures.value counts.0; counted = rw c.as_slice.ensures.value counts.1 }
 
 pub loop-index-preserved : goal.loop-index-preserved
 loop-index-preserved c =
