@@ -50,7 +50,7 @@ use Rattle.enumerate_block.specs.declared.ranges.Ranged.{Ranged}
 use Rattle.enumerate_block.specs.declared.ranges.Ranged.TheVariants.{Whole as WholeRanged, TooMany as MoreThanRanged}
 use Rattle.enumerate_block.specs.Ranges.{AreRefuted, IsAllWidest, IsAllOrMore as IsRangedList, IsShownWidest}
 use Rattle.enumerate_block.specs.Ranges.{MadeForRanges}
-use Rattle.enumerate_block.proofs.RangeLemmas.{no_range_within}
+use Rattle.enumerate_block.proofs.RangeTurns.{no_range_within}
 use Rattle.enumerate_block.proofs.StepLemmas.{refuted_first, refuted_none}
 use Rattle.enumerate_block.proofs.WidthLemmas.{widest_has_mode}
 use Rattle.enumerate_block.specs.Extensions.{AreExtensions, IsListOf, IsListTask, IsModeOf, IsShownOne, MadeForAll}

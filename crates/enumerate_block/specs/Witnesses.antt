@@ -44,6 +44,13 @@ abbrev pub outs_of : Bool → List ℕ → List ℕ
 outs_of true goals = []
 outs_of false goals = goals
 
+-- the lists say that of a goal, and what else is wanted
+pub record AreWanted (accepted : Bool) (goal ranged asks ins outs these numbers : List ℕ) : Type 0 where
+  pub ins_are : ins ≡ ins_of accepted goal
+  pub outs_are : outs ≡ outs_of accepted goal
+  pub ranged_are : these ≡ ranged
+  pub asks_are : numbers ≡ asks
+
 -- ---- the evidence
 
 -- a set of the mode with a widest range that makes the literal true, with its range and the step that shows that no
