@@ -2,7 +2,6 @@
 
 ghost use Rattle.std.specs.Prelude.{IfOk};
 ghost use Rattle.lists.specs.Members.{IsSetOf};
-ghost use Rattle.semantics.specs.AbaFrameworks.{Aba, IsNumberedAba};
 ghost use Rattle.meaning_atoms.specs.declared.atom.Atom.TheVariants.{Asm};
 ghost use Rattle.oracle_face.specs.Decoding.{IsDecoded};
 
