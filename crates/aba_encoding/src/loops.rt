@@ -16,9 +16,9 @@ ghost use Rattle.af_encoding.specs.Decoded.{Affirms};
 ghost use Rattle.aba_encoding.specs.AbaModels.{AddsAtom, IsFirstLoop, IsFounded, IsLoopBeside, IsLoopName};
 ghost use Rattle.af_encoding.specs.NumberAtoms.{atom_of};
 
-use af_encoding::{NumberAtom, affirmed_numbers};
 use crate::decoding::decode;
 use aba_notions::{AbaPlain, Unfounded};
+use af_encoding::{NumberAtom, affirmed_numbers};
 use lists::Memory;
 use loop_clauses::loop_axiom;
 use meaning_atoms::{AtomLit, AxiomName, Closure};

@@ -22,7 +22,7 @@ use Rattle.iccma_tasks.specs.declared.task.Task.{Task}
 use Rattle.iccma_tasks.specs.Tasks.{HasTask}
 use Rattle.certificate_claims.specs.declared.row.Row.{Row}
 use Rattle.certificate_claims.specs.declared.row.Row.TheVariants.{AllTested, AllLargest, AllWidest, Excluded}
-use Rattle.certificate_claims.specs.Acceptance.{NoRangeWithin, Tests}
+use Rattle.certificate_claims.specs.Acceptance.{Tests}
 use Rattle.certificate_claims.specs.Claims.{claim_of, claims, mode_atom, widest_semantics}
 use Rattle.certificate_claims.specs.Rights.{IsExtension, SetsRise}
 use Rattle.certificate_claims.specs.SetLiterals.{differs, outside, wider}

@@ -16,7 +16,7 @@ use Rattle.certificate_claims.specs.Claims.{first_ranged, mode_atom, range_cover
 use Rattle.certificate_claims.specs.Claims.{range_widest, widest_semantics}
 use Rattle.certificate_claims.specs.Refutations.{IsPlain}
 use Rattle.certificate_claims.specs.Rights.{IsExtension}
-use Rattle.certificate_claims.specs.SetLiterals.{are_ranged, differs, has, members, range_of}
+use Rattle.certificate_claims.specs.SetLiterals.{are_ranged, differs, members, range_of}
 use Rattle.certificate_claims.specs.SetLiterals.{same_range, wider}
 use Rattle.certificate_claims.proofs.SetTests.{firsts_within}
 use Rattle.certificate_claims.proofs.GoalLists.{plain_mapped}

@@ -1,4 +1,4 @@
-use Rattle.std.proofs.Common.{◌≡◌, inl, inr, ⊎_elim, ℕ, suc, ◌+◌, ◌*◌, ◌<◌, ◌≤◌, true, false, Bool, List, [], ◌∷◌}
+use Rattle.std.proofs.Common.{◌≡◌, inl, inr, ⊎_elim, ℕ, ◌+◌, ◌*◌, ◌<◌, ◌≤◌, true, false, Bool, List, [], ◌∷◌}
 use Rattle.std.proofs.Common.{◌++◌, length, map, filter, refl, ap, sym, subst, ◌∙◌, arith}
 use Rattle.std.specs.Prelude.{◌⊎◌, ◌↔◌, Contains, slice_index_or, Option, Some, None, Result, Ok, Err, IfOk}
 use Rattle.std.proofs.lemmas.Bool.{false≢true}
@@ -13,9 +13,8 @@ use Rattle.semantics.specs.Frameworks.{Framework, af, aba, IsNumbered}
 use Rattle.semantics.proofs.SameMembers.{range_more}
 use Rattle.meaning_atoms.specs.declared.atom.Atom.{Atom}
 use Rattle.meaning_atoms.specs.declared.atom.Atom.TheVariants.{Member, Range}
-use Rattle.meaning_atoms.specs.declared.atom.AtomLit.{AtomLit}
 use Rattle.meaning_atoms.specs.Literals.{affirmed, denied}
-use Rattle.meaning_atoms.specs.Worlds.{HoldsOf, IsTrueAlone, Says, world_of}
+use Rattle.meaning_atoms.specs.Worlds.{HoldsOf, Says}
 use Rattle.certificate_claims.specs.Acceptance.{no_claim}
 use Rattle.certificate_claims.specs.Claims.{claim_of, claims, mode_atom, range_cover, range_free, range_widest}
 use Rattle.certificate_claims.specs.Claims.{widest_semantics}
@@ -33,7 +32,7 @@ use Rattle.oracle_face.specs.declared.face.Found.TheVariants.{Set, Refuted}
 use Rattle.oracle_face.specs.Goals.{MakesTrue, Refutes, SpeaksOf}
 use Rattle.oracle_face.specs.Growing.{Grows, IsFound, Making}
 use Rattle.oracle_face.specs.Kinds.{IsRanged, is_assumption_based}
-use Rattle.oracle_face.specs.Logs.{IsKept, IsLog, IsNumberOf, IsSameClause, OracleLog, SideClause, side_at}
+use Rattle.oracle_face.specs.Logs.{IsKept, IsLog, IsNumberOf, OracleLog, SideClause, side_at}
 use Rattle.oracle_face.proofs.Refuting.{claim_excluded, refutes_grown}
 use Rattle.goal_lists.specs.Asking.{AreApart, IsAskable, goals_of}
 use Rattle.goal_lists.specs.Sides.{IsAskOf}

@@ -13,7 +13,7 @@ use Rattle.certificate_claims.specs.SetLiterals.{goal, wider}
 use Rattle.oracle_face.specs.declared.face.Found.{Found}
 use Rattle.oracle_face.specs.declared.face.Found.TheVariants.{Set, Refuted}
 use Rattle.oracle_face.specs.Goals.{Refutes}
-use Rattle.oracle_face.specs.Kinds.{IsRanged, is_assumption_based}
+use Rattle.oracle_face.specs.Kinds.{is_assumption_based}
 use Rattle.oracle_face.specs.Logs.{OracleLog}
 use Rattle.goal_lists.specs.Asking.{AreApart}
 use Rattle.goal_lists.specs.Sides.{AreAsksOf, IsAskOf}
