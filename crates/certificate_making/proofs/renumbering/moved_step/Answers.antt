@@ -21,7 +21,7 @@ returns-in-Side g c =
     let step = step_at (g.L.ReadLog.log c.args.log.now).steps c.args.step in
     let from = subst (IsOrigin step.source) c.in-Side.is c.in_ok-name.ensures in
     subst (λ source. IsMovedStep c.args.positions.now c.args.numbers.now source step.clause (Side c.position.result))
-    (sym from) (c.position.ensures ∙ ap (position_of c.args.positions.now) c.number.ensures)
+    (sym from) (ap Side (c.position.ensures ∙ ap (position_of c.args.positions.now) c.number.ensures))
 
 pub returns-in-Entry : goal.returns-in-Entry
 returns-in-Entry g c =
