@@ -1,5 +1,5 @@
 -- Each row of the table but the loop clause is true in every world of an assumption-based framework.
-use Rattle.std.proofs.Common.{◌≡◌, ◌+◌, ◌<◌, ◌≤◌, ℕ, List, [], ◌∷◌, refl, sym, ap, subst, ◌∙◌, ⊎_elim, arith}
+use Rattle.std.proofs.Common.{◌≡◌, ◌+◌, ◌<◌, ◌≤◌, ℕ, List, [], ◌∷◌, sym, subst, ◌∙◌, ⊎_elim, arith}
 use Rattle.std.specs.Prelude.{Contains}
 use Rattle.std.proofs.lemmas.Bool.{cases_eq, cases_lt}
 use Rattle.meaning_atoms.specs.semantics.specs.AbaFrameworks.{Aba, AttacksAssumption, collective_of}
@@ -14,11 +14,10 @@ use Rattle.meaning_atoms.specs.declared.atom.Atom.TheVariants.{Cf, Ad, Co, St}
 use Rattle.meaning_atoms.specs.declared.atom.Closure.{Closure}
 use Rattle.meaning_atoms.specs.declared.atom.Closure.TheVariants.{Own, Rest}
 use Rattle.meaning_atoms.specs.declared.atom.AtomLit.{AtomLit}
-use Rattle.meaning_atoms.specs.declared.aba_axiom.AbaAxiom.{AbaAxiom}
 use Rattle.meaning_atoms.specs.declared.aba_axiom.AbaAxiom.TheVariants.{B1, B2, B3, B4, B5, B6, B7, B8, B9, B9Con, B10, B11, B12, B13, B14, B15, B18, B19}
-use Rattle.meaning_atoms.specs.AbaReadings.{IsInClosure, MissesAtom}
+use Rattle.meaning_atoms.specs.AbaReadings.{IsInClosure}
 use Rattle.meaning_atoms.specs.Literals.{affirmed}
-use Rattle.meaning_atoms.specs.Worlds.{world_of, IsAbaWorld, IsTrueBeside}
+use Rattle.meaning_atoms.specs.Worlds.{world_of, IsTrueBeside}
 use Rattle.meaning_atoms.proofs.Clauses.{so, or_else, given}
 use Rattle.meaning_atoms.proofs.NotionClauses.{IsValidOfAba}
 use Rattle.aba_axioms.specs.AbaTable.{aba_clause, given_atom}
@@ -86,6 +85,12 @@ bodies_are_missed k r x f s ok sides =
       };
     })))
 
+-- what is not below a number, nor the number itself, is past it
+past : (m j : ℕ) → (m < j → ⊥) → (m ≡ j → ⊥) → j + 1 ≤ m
+past m j above other =
+    ⊎_elim (λ below. absurd (above below))
+    (λ _. ⊎_elim (λ e. absurd (other e)) (λ apart. omega arith) (cases_eq m j)) (cases_lt m j)
+
 pub miss_steps : (k : Closure) (r i j : ℕ) → IsValidOfAba (aba_clause (B7 k r i j))
 miss_steps k r i j f s ok sides =
     let w = world_of (aba f) s in
@@ -94,17 +99,14 @@ miss_steps k r i j f s ok sides =
     let m = miss.says in
     let late = m.late in
     let member : Contains gap.rule.body m.missed = subst (λ (q : Rule). Contains q.body m.missed) same m.member in
-    ⊎_elim (λ below. absurd (gap.says m.missed member m.late below))
-    (λ past. ⊎_elim
-    (λ e. absurd (m.outside (subst (λ x. IsInClosure f s k x) (sym e) derived)))
-    (λ other. so w sides (Miss k r (j + 1)) [] (record {
+    let later = past m.missed j (gap.says m.missed member m.late)
+    (λ e. m.outside (subst (λ x. IsInClosure f s k x) (sym e) derived)) in
+    so w sides (Miss k r (j + 1)) [] (record {
       rule = miss.rule;
       there = miss.there;
       numbered = miss.numbered;
-      says = record { missed = m.missed; member = m.member; late = omega arith; outside = m.outside };
-    }))
-    (cases_eq m.missed j))
-    (cases_lt m.missed j))))
+      says = record { missed = m.missed; member = m.member; late = later; outside = m.outside };
+    }))))
 
 pub miss_ends : (k : Closure) (r i : ℕ) → IsValidOfAba (aba_clause (B8 k r i))
 miss_ends k r i f s ok sides =
@@ -157,21 +159,17 @@ support_steps k x i j f s ok sides =
     let w = world_of (aba f) s in
     given w sides (Sup k x i) _ (λ sup. given w sides (HGap x i j) _ (λ gap. given w sides (Miss k j 1) _ (λ miss.
     let late = sup.late in
-    ⊎_elim (λ below. absurd (gap sup.rule sup.there sup.head sup.late below))
-    (λ past. ⊎_elim
-    (λ e.
+    let later = past sup.rule.number j (gap sup.rule sup.there sup.head sup.late) (λ e.
     let same = same_rule f ok.framework.form miss.rule sup.rule miss.there sup.there (miss.numbered ∙ sym e) in
-    absurd (miss.says.outside (sup.body miss.says.missed
-    (subst (λ (q : Rule). Contains q.body miss.says.missed) same miss.says.member))))
-    (λ other. so w sides (Sup k x (j + 1)) [] (record {
+    miss.says.outside (sup.body miss.says.missed
+    (subst (λ (q : Rule). Contains q.body miss.says.missed) same miss.says.member))) in
+    so w sides (Sup k x (j + 1)) [] (record {
       rule = sup.rule;
       there = sup.there;
-      late = omega arith;
+      late = later;
       head = sup.head;
       body = sup.body;
-    }))
-    (cases_eq sup.rule.number j))
-    (cases_lt sup.rule.number j))))
+    }))))
 
 pub support_ends : (k : Closure) (x i : ℕ) → IsValidOfAba (aba_clause (B11 k x i))
 support_ends k x i f s ok sides =
@@ -221,18 +219,15 @@ hit_steps k a i j f s ok sides =
     let w = world_of (aba f) s in
     given w sides (Hit k a i) _ (λ hit. given w sides (ConGap a i j) _ (λ gap. or_else w sides (Der k j) _ (λ out.
     let late = hit.late in
-    ⊎_elim (λ below. absurd (gap.none hit.contrary hit.is hit.late below))
-    (λ past. ⊎_elim
-    (λ e. absurd (out (subst (λ x. IsInClosure f s k x) e hit.derived)))
-    (λ other. so w sides (Hit k a (j + 1)) [] (record {
+    let later = past hit.contrary j (gap.none hit.contrary hit.is hit.late)
+    (λ e. out (subst (λ x. IsInClosure f s k x) e hit.derived)) in
+    so w sides (Hit k a (j + 1)) [] (record {
       assumption = hit.assumption;
       contrary = hit.contrary;
       is = hit.is;
-      late = omega arith;
+      late = later;
       derived = hit.derived;
-    }))
-    (cases_eq hit.contrary j))
-    (cases_lt hit.contrary j))))
+    }))))
 
 pub hit_ends : (k : Closure) (a i : ℕ) → IsValidOfAba (aba_clause (B19 k a i))
 hit_ends k a i f s ok sides =

@@ -1,13 +1,12 @@
 -- The literals of the table are within their bounds, where the arguments fit the row, and none asks for a side clause.
-use Rattle.std.proofs.Common.{◌≡◌, ◌+◌, ◌==◌, ◌<◌, ◌≤◌, ℕ, zero, suc, List, [], ◌∷◌, ◌++◌, length, get_or, map, refl, sym, ap, subst, ◌∙◌, ⊎_elim, arith}
+use Rattle.std.proofs.Common.{◌≡◌, ◌+◌, ◌==◌, ◌<◌, ◌≤◌, ℕ, zero, suc, List, [], ◌∷◌, ◌++◌, length, get_or, map, refl, subst, ◌∙◌, ⊎_elim, arith}
 use Rattle.std.specs.Prelude.{All, AllPairs, Contains}
 use Rattle.std.specs.List.{AllByRecursion, flat_map}
 use Rattle.std.proofs.lemmas.Bool.{cond_both, eqb-false}
 use Rattle.std.proofs.lemmas.List.Elements.{All-from_recursion}
 use Rattle.std.proofs.lemmas.List.Kept.{AllPairs-from_increasing}
 use Rattle.meaning_atoms.specs.semantics.specs.Arguments.{IsArgument}
-use Rattle.meaning_atoms.specs.declared.atom.Atom.{Atom}
-use Rattle.meaning_atoms.specs.declared.atom.Atom.TheVariants.{Member, Asm, ConGap, HGap, BGap, Body, Miss}
+use Rattle.meaning_atoms.specs.declared.atom.Atom.TheVariants.{HGap, BGap}
 use Rattle.meaning_atoms.specs.declared.atom.Closure.{Closure}
 use Rattle.meaning_atoms.specs.declared.atom.Closure.TheVariants.{Own, Rest}
 use Rattle.meaning_atoms.specs.declared.atom.AtomLit.{AtomLit}
@@ -146,6 +145,15 @@ given_in_bounds : (k : Closure) (x : ℕ) → IsArgument x → IsAtom (given_ato
 given_in_bounds Own x a = a
 given_in_bounds Rest x a = a
 
+-- the literals of a step along a body, or along the contraries of an assumption
+step_fits : (a i j : ℕ) → IsStretch a i j → (IsArgument a × IsPosition i)
+    × (IsAtom (BGap a i j) × (IsAtomOrNone j × ((IsArgument a × IsPosition (j + 1)) × Unit {0})))
+step_fits a i j s =
+    let at : IsArgument a × IsPosition i = (s.argument, stretch_begin a i j s) in
+    let gap : IsAtom (BGap a i j) = (s.argument, stretch_begin a i j s, stretch_end a i j s, s.order) in
+    let later : IsArgument a × IsPosition (j + 1) = (s.argument, stretch_past a i j s) in
+    (at, (gap, (number j (stretch_argument a i j s), (later, tt))))
+
 fits : (name : AbaAxiom) → IsAbaAxiom name → AllByRecursion IsLit (aba_clause name)
 fits (B1 a) h = (tt, (h, (h, tt)))
 fits (B2 a) h = (h, (number a h, tt))
@@ -153,12 +161,7 @@ fits (B3 a) h = (h, ((h, first_place), (number a h, tt)))
 fits (B4 k) h = (nothing, tt)
 fits (B5 k r x) h = (h, ((h.0, first_place), (number x h.1, tt)))
 fits (B6 k r x) h = (h, (number x h.1, ((h.0, first_place), tt)))
-fits (B7 k r i j) h =
-    let s : IsStretch r i j = h in
-    let miss : IsArgument r × IsPosition i = (s.argument, stretch_begin r i j s) in
-    let gap : IsAtom (BGap r i j) = (s.argument, stretch_begin r i j s, stretch_end r i j s, s.order) in
-    let later : IsArgument r × IsPosition (j + 1) = (s.argument, stretch_past r i j s) in
-    (miss, (gap, (number j (stretch_argument r i j s), (later, tt))))
+fits (B7 k r i j) h = step_fits r i j h
 fits (B8 k r i) h = (h, ((h.0, h.1, last_place, h.1.high), tt))
 fits (B9 k x) h = (number x h, (given_in_bounds k x h, ((number x h, first_place), tt)))
 fits (B9Con a c) h = (number a h.0, (h, (h.1, tt)))
@@ -176,12 +179,7 @@ fits (B14 a) h = (tt, (h, ((h, first_place), (h, tt))))
 fits (B15 a) h = (tt, (h, (h, ((h, first_place), tt))))
 fits (B16 part) h = notions_fit part
 fits (B17 k x rows) h = loop_fits k x rows h
-fits (B18 k a i j) h =
-    let s : IsStretch a i j = h in
-    let hit : IsArgument a × IsPosition i = (s.argument, stretch_begin a i j s) in
-    let gap : IsAtom (ConGap a i j) = (s.argument, stretch_begin a i j s, stretch_end a i j s, s.order) in
-    let later : IsArgument a × IsPosition (j + 1) = (s.argument, stretch_past a i j s) in
-    (hit, (gap, (number j (stretch_argument a i j s), (later, tt))))
+fits (B18 k a i j) h = step_fits a i j h
 fits (B19 k a i) h = (h, ((h.0, h.1, last_place, h.1.high), tt))
 
 pub rows_fit : (name : AbaAxiom) → IsAbaAxiom name → All IsLit (aba_clause name)

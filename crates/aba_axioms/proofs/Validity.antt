@@ -31,54 +31,33 @@ use Rattle.aba_axioms.proofs.AbaWorlds.{
 use Rattle.aba_axioms.proofs.AfWorlds.{b1, b2, b3, b4, b5, b6, b7, b8, b9, b9_con, b10, b11, b12, b13, b14, b15, b18, b19}
 use Rattle.aba_axioms.proofs.LoopClauses.{loop_of_aba, loop_of_af}
 
-rows_of_aba : (name : AbaAxiom) → IsAbaAxiom name → IsValidOfAba (aba_clause name)
-rows_of_aba (B1 a) fits = members_are_assumptions a
-rows_of_aba (B2 a) fits = members_follow a
-rows_of_aba (B3 a) fits = rest_is_unattacked a
-rows_of_aba (B4 k) fits = nothing_is_no_atom k
-rows_of_aba (B5 k r h) fits = heads_follow k r h
-rows_of_aba (B6 k r x) fits = bodies_are_missed k r x
-rows_of_aba (B7 k r i j) fits = miss_steps k r i j
-rows_of_aba (B8 k r i) fits = miss_ends k r i
-rows_of_aba (B9 k x) fits = derived_has_support k x
-rows_of_aba (B9Con a c) fits = rest_is_quiet a c
-rows_of_aba (B10 k x i j) fits = support_steps k x i j
-rows_of_aba (B11 k x i) fits = support_ends k x i
-rows_of_aba (B12 a c) fits = members_are_apart a c
-rows_of_aba (B13 a c) fits = rest_attacks_no_member a c
-rows_of_aba (B14 a) fits = defended_are_members a
-rows_of_aba (B15 a) fits = outsiders_are_attacked a
-rows_of_aba (B16 part) fits = notions_of_aba part
-rows_of_aba (B17 k x rows) fits = loop_of_aba k x rows fits
-rows_of_aba (B18 k a i j) fits = hit_steps k a i j
-rows_of_aba (B19 k a i) fits = hit_ends k a i
-
-rows_of_af : (name : AbaAxiom) → IsAbaAxiom name → IsValidOfAf (aba_clause name)
-rows_of_af (B1 a) fits = b1 a
-rows_of_af (B2 a) fits = b2 a
-rows_of_af (B3 a) fits = b3 a
-rows_of_af (B4 k) fits = b4 k
-rows_of_af (B5 k r h) fits = b5 k r h
-rows_of_af (B6 k r x) fits = b6 k r x
-rows_of_af (B7 k r i j) fits = b7 k r i j
-rows_of_af (B8 k r i) fits = b8 k r i
-rows_of_af (B9 k x) fits = b9 k x
-rows_of_af (B9Con a c) fits = b9_con a c
-rows_of_af (B10 k x i j) fits = b10 k x i j
-rows_of_af (B11 k x i) fits = b11 k x i
-rows_of_af (B12 a c) fits = b12 a c
-rows_of_af (B13 a c) fits = b13 a c
-rows_of_af (B14 a) fits = b14 a
-rows_of_af (B15 a) fits = b15 a
-rows_of_af (B16 part) fits = notions_of_af part
-rows_of_af (B17 k x rows) fits = loop_of_af k x rows fits
-rows_of_af (B18 k a i j) fits = b18 k a i j
-rows_of_af (B19 k a i) fits = b19 k a i
+-- the clause of each axiom, in the worlds of the one kind of framework and of the other
+rows_of_both : (name : AbaAxiom) → IsAbaAxiom name → IsValidOfAba (aba_clause name) × IsValidOfAf (aba_clause name)
+rows_of_both (B1 a) fits = (members_are_assumptions a, b1 a)
+rows_of_both (B2 a) fits = (members_follow a, b2 a)
+rows_of_both (B3 a) fits = (rest_is_unattacked a, b3 a)
+rows_of_both (B4 k) fits = (nothing_is_no_atom k, b4 k)
+rows_of_both (B5 k r h) fits = (heads_follow k r h, b5 k r h)
+rows_of_both (B6 k r x) fits = (bodies_are_missed k r x, b6 k r x)
+rows_of_both (B7 k r i j) fits = (miss_steps k r i j, b7 k r i j)
+rows_of_both (B8 k r i) fits = (miss_ends k r i, b8 k r i)
+rows_of_both (B9 k x) fits = (derived_has_support k x, b9 k x)
+rows_of_both (B9Con a c) fits = (rest_is_quiet a c, b9_con a c)
+rows_of_both (B10 k x i j) fits = (support_steps k x i j, b10 k x i j)
+rows_of_both (B11 k x i) fits = (support_ends k x i, b11 k x i)
+rows_of_both (B12 a c) fits = (members_are_apart a c, b12 a c)
+rows_of_both (B13 a c) fits = (rest_attacks_no_member a c, b13 a c)
+rows_of_both (B14 a) fits = (defended_are_members a, b14 a)
+rows_of_both (B15 a) fits = (outsiders_are_attacked a, b15 a)
+rows_of_both (B16 part) fits = (notions_of_aba part, notions_of_af part)
+rows_of_both (B17 k x rows) fits = (loop_of_aba k x rows fits, loop_of_af k x rows fits)
+rows_of_both (B18 k a i j) fits = (hit_steps k a i j, b18 k a i j)
+rows_of_both (B19 k a i) fits = (hit_ends k a i, b19 k a i)
 
 rows_of : (name : AbaAxiom) → IsAbaAxiom name → (f : Framework) (s : List ℕ) → IsWorldOf f s
     → (sides : List (List AtomLit)) → IsTrueBeside (record { framework = f; set = s }) sides (aba_clause name)
-rows_of name fits (af f) s ok sides = rows_of_af name fits f s ok sides
-rows_of name fits (aba f) s ok sides = rows_of_aba name fits f s ok sides
+rows_of name fits (af f) s ok sides = (rows_of_both name fits).1 f s ok sides
+rows_of name fits (aba f) s ok sides = (rows_of_both name fits).0 f s ok sides
 
 pub clauses_are_valid : (name : AbaAxiom) → IsAbaAxiom name → IsValid (aba_clause name)
 clauses_are_valid name fits w ok sides = rows_of name fits w.framework w.set ok sides

@@ -17,7 +17,7 @@ use Rattle.edit_rules.specs.AbaEdits.{aba_with_pair, aba_without_pair}
 use Rattle.edit_rules.specs.AbaEdits.{contraries_of, next_rule}
 use Rattle.edit_rules.proofs.ContraryLists.{contraries_of_members, with_contrary_members, without_contrary_members}
 use Rattle.edit_rules.proofs.PairLists.{with_pair_members, without_pair_members}
-use Rattle.aba_encoding.specs.Brought.{by_assumption, by_rule, by_rule_gone, by_rule_head, nothing}
+use Rattle.aba_encoding.specs.Brought.{by_assumption, by_rule_added, by_rule_gone, nothing}
 use Rattle.aba_encoding.specs.Brought.{IsOnly, by_contrary_added, by_contrary_gone, by_contrary_set}
 use Rattle.aba_encoding.specs.Places.{HasNoneAfter, IsNextAfter, IsPlaceBefore}
 use Rattle.aba_encoding.proofs.BroughtLemmas.{Brings, IsContraryEnd, IsContraryStep, IsHeadEnd, IsHeadStep}
@@ -111,6 +111,13 @@ beside : {A B P Q : Type 0} (new : Type 0) → A → B → new ↔ (P × (Q → 
 beside new here there is = (
   λ h. ((here, (is.0 h).0), λ old. (is.0 h).1 old.1),
   λ w. is.1 (w.0.1, λ q. w.1 (there, q)),
+)
+
+-- three parts, of which the last two were one
+in_three : {A B C P : Type 0} → (A × (B × C)) ↔ P → (A × B × C) ↔ P
+in_three same = (
+  λ h. same.0 (h.0, (h.1, h.2)),
+  λ w. let is = same.1 w in (is.0, is.1.0, is.1.1),
 )
 
 -- ---- an assumption that comes or goes
@@ -226,18 +233,9 @@ module _ (f : Aba) (a c : ℕ) (gone : List ℕ) (there : Contains f.assumptions
   set_brings = record {
     atoms = refl;
     assumption = λ x. as_before (λ h. h);
-    contrary = λ x y. (
-      λ h. (pair_new y x).0 (h.0, (h.1, h.2)),
-      λ w. let is = (pair_new y x).1 w in (is.0, is.1.0, is.1.1),
-    );
-    contrary_step = λ x i j. (
-      λ h. (step_new i j x).0 (h.0, (h.1, h.2)),
-      λ w. let is = (step_new i j x).1 w in (is.0, is.1.0, is.1.1),
-    );
-    contrary_end = λ x i. (
-      λ h. (end_new i x).0 (h.0, (h.1, h.2)),
-      λ w. let is = (end_new i x).1 w in (is.0, is.1.0, is.1.1),
-    );
+    contrary = λ x y. in_three (pair_new y x);
+    contrary_step = λ x i j. in_three (step_new i j x);
+    contrary_end = λ x i. in_three (end_new i x);
     rule = no_new_rule f set_to refl refl;
     step = no_new_step f set_to refl refl;
     end = no_new_end f set_to refl refl;
@@ -320,10 +318,7 @@ module _ (f : Aba) (a c : ℕ) (there : Contains f.assumptions a) (low : 1 ≤ c
       (gained_step (HasContrary f a) (HasContrary with_one a) c gains i j).1,
       (gained_step (HasContrary f a) (HasContrary with_one a) c gains i j).0,
     )) x;
-    contrary_end = λ x i. (
-      λ h. (end_new i x).0 (h.0, (h.1, h.2)),
-      λ w. let is = (end_new i x).1 w in (is.0, is.1.0, is.1.1),
-    );
+    contrary_end = λ x i. in_three (end_new i x);
     rule = no_new_rule f with_one refl refl;
     step = no_new_step f with_one refl refl;
     end = no_new_end f with_one refl refl;
@@ -368,14 +363,8 @@ module _ (f : Aba) (a c : ℕ) (there : Contains f.assumptions a) (under : c < 1
     atoms = refl;
     assumption = λ x. as_before (λ h. h);
     contrary = λ x y. as_before (λ h. ((left_members x y).0 h).0);
-    contrary_step = λ x i j. (
-      λ h. (step_new i j x).0 (h.0, (h.1, h.2)),
-      λ w. let is = (step_new i j x).1 w in (is.0, is.1.0, is.1.1),
-    );
-    contrary_end = λ x i. (
-      λ h. (end_new i x).0 (h.0, (h.1, h.2)),
-      λ w. let is = (end_new i x).1 w in (is.0, is.1.0, is.1.1),
-    );
+    contrary_step = λ x i j. in_three (step_new i j x);
+    contrary_end = λ x i. in_three (end_new i x);
     rule = no_new_rule f without_one refl refl;
     step = no_new_step f without_one refl refl;
     end = no_new_end f without_one refl refl;
@@ -449,15 +438,7 @@ module _ (f : Aba) (h : ℕ) (body : List ℕ) (ok : IsNumberedAba f) where
     same_heads : (x : ℕ) → (x ≡ h → ⊥) → (y : ℕ) → Heads more x y ↔ Heads f x y
     same_heads x other y = (elsewhere x other y, kept_rule y (λ q. q.head ≡ x))
 
-    pub rule_brings : Brings f more (record {
-      assumption = λ x. ⊥;
-      contrary = λ x y. ⊥;
-      contrary_step = λ x i j. ⊥;
-      contrary_end = λ x i. ⊥;
-      rule = (by_rule rule).rule;
-      step = (by_rule_head more h f.next).step;
-      end = (by_rule_head more h f.next).end;
-    })
+    pub rule_brings : Brings f more (by_rule_added more h rule)
     rule_brings = record {
       atoms = refl;
       assumption = λ x. as_before (λ w. w);

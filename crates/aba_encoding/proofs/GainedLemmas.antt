@@ -12,7 +12,7 @@ use Rattle.semantics.specs.Frameworks.{aba}
 use Rattle.meaning_atoms.specs.declared.atom.Closure.{Closure}
 use Rattle.meaning_atoms.specs.declared.atom.Closure.TheVariants.{Own, Rest}
 use Rattle.meaning_atoms.specs.declared.aba_axiom.AbaAxiom.{AbaAxiom}
-use Rattle.meaning_atoms.specs.declared.aba_axiom.AbaAxiom.TheVariants.{B1, B2, B3, B4, B5, B6, B7, B8, B9, B9Con, B10, B11, B12, B13, B14, B15, B16, B17, B18, B19}
+use Rattle.meaning_atoms.specs.declared.aba_axiom.AbaAxiom.TheVariants.{B2, B3, B5, B6, B7, B8, B9Con, B10, B11, B12, B13, B14, B15, B18, B19}
 use Rattle.meaning_atoms.specs.declared.axiom.AxiomName.{AxiomName}
 use Rattle.meaning_atoms.specs.declared.axiom.AxiomName.TheVariants.{Af as OfAf, Aba as OfAba}
 use Rattle.edit_rules.specs.declared.edit.Edit.{Edit}
@@ -250,16 +250,6 @@ module _ (a c : ℕ) (under : c < 1000001) where
     set_back (B13 x y) is = at_pair B13 x y is (2, omega arith, refl)
     set_back (B18 k x i j) is = at_step k x i j is
     set_back (B19 k x i) is = at_end k x i is
-    set_back (B2 x) is = absurd is
-    set_back (B3 x) is = absurd is
-    set_back (B5 k r h) is = absurd is
-    set_back (B6 k r x) is = absurd is
-    set_back (B7 k r i j) is = absurd is
-    set_back (B8 k r i) is = absurd is
-    set_back (B10 k x i j) is = absurd is
-    set_back (B11 k x i) is = absurd is
-    set_back (B14 x) is = absurd is
-    set_back (B15 x) is = absurd is
     set_back _ is = absurd is
 
     pub set_listed : AreOf (by_contrary_set a c gone) (set_axioms a c pair step end)
@@ -281,19 +271,6 @@ module _ (f : Aba) (form : IsNumberedAba f) (a c : ℕ) where
       (one_next (HasContrary f a) (contrary_low f form a) (contrary_under f form a) c j m next is.2))
       (by_closure (λ k'. B18 k' a p j) [] [] k)
   contrary_past_back p j next (B19 k x s) is = absurd (beyond_last j next is.2)
-  contrary_past_back p j next (B2 x) is = absurd is
-  contrary_past_back p j next (B3 x) is = absurd is
-  contrary_past_back p j next (B5 k r x) is = absurd is
-  contrary_past_back p j next (B6 k r x) is = absurd is
-  contrary_past_back p j next (B7 k r s m) is = absurd is
-  contrary_past_back p j next (B8 k r s) is = absurd is
-  contrary_past_back p j next (B9Con x y) is = absurd is
-  contrary_past_back p j next (B10 k x s m) is = absurd is
-  contrary_past_back p j next (B11 k x s) is = absurd is
-  contrary_past_back p j next (B12 x y) is = absurd is
-  contrary_past_back p j next (B13 x y) is = absurd is
-  contrary_past_back p j next (B14 x) is = absurd is
-  contrary_past_back p j next (B15 x) is = absurd is
   contrary_past_back p j next _ is = absurd is
 
   pub contrary_past_listed : (p j : ℕ) → IsNextAfter (HasContrary f a) c j
@@ -309,19 +286,6 @@ module _ (f : Aba) (form : IsNumberedAba f) (a c : ℕ) where
   contrary_last_back p none (B19 k x s) is =
       subst (Contains (contrary_end a p)) (same_two (B19 k) a p x s is.0 is.1) (by_closure (λ k'. B19 k' a p) [] [] k)
   contrary_last_back p none (B18 k x s m) is = absurd (beyond_last m is.2 none)
-  contrary_last_back p none (B2 x) is = absurd is
-  contrary_last_back p none (B3 x) is = absurd is
-  contrary_last_back p none (B5 k r x) is = absurd is
-  contrary_last_back p none (B6 k r x) is = absurd is
-  contrary_last_back p none (B7 k r s m) is = absurd is
-  contrary_last_back p none (B8 k r s) is = absurd is
-  contrary_last_back p none (B9Con x y) is = absurd is
-  contrary_last_back p none (B10 k x s m) is = absurd is
-  contrary_last_back p none (B11 k x s) is = absurd is
-  contrary_last_back p none (B12 x y) is = absurd is
-  contrary_last_back p none (B13 x y) is = absurd is
-  contrary_last_back p none (B14 x) is = absurd is
-  contrary_last_back p none (B15 x) is = absurd is
   contrary_last_back p none _ is = absurd is
 
   pub contrary_last_listed : (p : ℕ) → HasNoneAfter (HasContrary f a) c
@@ -361,14 +325,9 @@ module _ (f : Aba) (form : IsNumberedAba f) (a c : ℕ) where
 
     -- the contrary with the step to it
     abbrev to_contrary : Brought
-    to_contrary = record {
-      assumption = λ x. ⊥;
+    to_contrary = record nothing {
       contrary = λ x y. (x ≡ a) × (y ≡ c);
       contrary_step = λ x i j. (x ≡ a) × IsPlaceBefore (HasContrary f a) c i × (j ≡ c);
-      contrary_end = λ x i. ⊥;
-      rule = λ r P. ⊥;
-      step = λ x i j. ⊥;
-      end = λ x i. ⊥;
     }
 
     to_back : (name : AbaAxiom) → IsOf to_contrary name → Contains (contrary_step a start c) name
@@ -378,17 +337,6 @@ module _ (f : Aba) (form : IsNumberedAba f) (a c : ℕ) where
     to_back (B18 k x i j) is =
         subst (Contains (contrary_step a start c)) (same_three (B18 k) a start c x i j is.0 (one_place_is i is.1) is.2)
         (step_of a start c k)
-    to_back (B2 x) is = absurd is
-    to_back (B3 x) is = absurd is
-    to_back (B5 k r x) is = absurd is
-    to_back (B6 k r x) is = absurd is
-    to_back (B7 k r s m) is = absurd is
-    to_back (B8 k r s) is = absurd is
-    to_back (B10 k x s m) is = absurd is
-    to_back (B11 k x s) is = absurd is
-    to_back (B14 x) is = absurd is
-    to_back (B15 x) is = absurd is
-    to_back (B19 k x s) is = absurd is
     to_back _ is = absurd is
 
     to_listed : AreOf to_contrary (contrary_step a start c)
@@ -474,17 +422,6 @@ module _ (f : Aba) (form : IsNumberedAba f) (r : Rule) (there : Contains f.rules
       (end_there (Contains r.body) (body_low f form r there) (body_under f form r there) (body_step r.number)
       (body_end r.number) 1 r.body (body_ahead f form r there) i is.1 (B8 k r.number i)
       (by_closure (λ k'. B8 k' r.number i) [] [] k)))
-  rule_back (B2 x) is = absurd is
-  rule_back (B3 x) is = absurd is
-  rule_back (B9Con x y) is = absurd is
-  rule_back (B10 k x i j) is = absurd is
-  rule_back (B11 k x i) is = absurd is
-  rule_back (B12 x y) is = absurd is
-  rule_back (B13 x y) is = absurd is
-  rule_back (B14 x) is = absurd is
-  rule_back (B15 x) is = absurd is
-  rule_back (B18 k x s m) is = absurd is
-  rule_back (B19 k x s) is = absurd is
   rule_back _ is = absurd is
 
   pub rule_listed : AreOf (by_rule r) (rule_axioms r)
@@ -506,19 +443,6 @@ module _ (f : Aba) (form : IsNumberedAba f) (h n i : ℕ) (place : IsPlaceBefore
   round_back (B11 k x s) is =
       subst (Contains round_axioms) (same_two (B11 k) h (n + 1) x s is.0 is.1)
       (by_closure (λ k'. B11 k' h (n + 1)) (head_step h i n) [] k)
-  round_back (B2 x) is = absurd is
-  round_back (B3 x) is = absurd is
-  round_back (B5 k r x) is = absurd is
-  round_back (B6 k r x) is = absurd is
-  round_back (B7 k r s j) is = absurd is
-  round_back (B8 k r s) is = absurd is
-  round_back (B9Con x y) is = absurd is
-  round_back (B12 x y) is = absurd is
-  round_back (B13 x y) is = absurd is
-  round_back (B14 x) is = absurd is
-  round_back (B15 x) is = absurd is
-  round_back (B18 k x s m) is = absurd is
-  round_back (B19 k x s) is = absurd is
   round_back _ is = absurd is
 
   pub round_listed : AreOf (by_rule_head f h n) round_axioms
@@ -540,19 +464,6 @@ module _ (f : Aba) (form : IsNumberedAba f) (h n i : ℕ) (place : IsPlaceBefore
       (one_next (Heads f h) (heads_low f form h) (heads_under f form h) n j m next is.2))
       (by_closure (λ k'. B10 k' h i j) [] [] k)
   past_back j next (B11 k x s) is = absurd (ends j next is.2)
-  past_back j next (B2 x) is = absurd is
-  past_back j next (B3 x) is = absurd is
-  past_back j next (B5 k r x) is = absurd is
-  past_back j next (B6 k r x) is = absurd is
-  past_back j next (B7 k r s m) is = absurd is
-  past_back j next (B8 k r s) is = absurd is
-  past_back j next (B9Con x y) is = absurd is
-  past_back j next (B12 x y) is = absurd is
-  past_back j next (B13 x y) is = absurd is
-  past_back j next (B14 x) is = absurd is
-  past_back j next (B15 x) is = absurd is
-  past_back j next (B18 k x s m) is = absurd is
-  past_back j next (B19 k x s) is = absurd is
   past_back j next _ is = absurd is
 
   pub past_listed : (j : ℕ) → IsNextAfter (Heads f h) n j → AreOf (by_rule_gone f h n) (head_step h i j)
@@ -567,19 +478,6 @@ module _ (f : Aba) (form : IsNumberedAba f) (h n i : ℕ) (place : IsPlaceBefore
       subst (Contains (head_end h i)) (same_two (B11 k) h i x s is.0 (one_start s is.1))
       (by_closure (λ k'. B11 k' h i) [] [] k)
   last_back none (B10 k x s m) is = absurd (ends m is.2 none)
-  last_back none (B2 x) is = absurd is
-  last_back none (B3 x) is = absurd is
-  last_back none (B5 k r x) is = absurd is
-  last_back none (B6 k r x) is = absurd is
-  last_back none (B7 k r s m) is = absurd is
-  last_back none (B8 k r s) is = absurd is
-  last_back none (B9Con x y) is = absurd is
-  last_back none (B12 x y) is = absurd is
-  last_back none (B13 x y) is = absurd is
-  last_back none (B14 x) is = absurd is
-  last_back none (B15 x) is = absurd is
-  last_back none (B18 k x s m) is = absurd is
-  last_back none (B19 k x s) is = absurd is
   last_back none _ is = absurd is
 
   pub last_listed : HasNoneAfter (Heads f h) n → AreOf (by_rule_gone f h n) (head_end h i)
@@ -595,26 +493,9 @@ module _ (f : Aba) (h : ℕ) where
   Either name = IsOf (by_rule (last_rule f)) name ⊎ IsOf (by_rule_head f h (last_rule f).number) name
 
   both : (name : AbaAxiom) → Either name ↔ IsOf (by_last_rule f h) name
-  both (B1 a) = left
-  both (B2 a) = left
-  both (B3 a) = left
-  both (B4 k) = left
-  both (B5 k r x) = left
-  both (B6 k r x) = left
-  both (B7 k r i j) = left
-  both (B8 k r i) = left
-  both (B9 k x) = left
-  both (B9Con a c) = left
   both (B10 k x i j) = right
   both (B11 k x i) = right
-  both (B12 a c) = left
-  both (B13 a c) = left
-  both (B14 a) = left
-  both (B15 a) = left
-  both (B16 part) = left
-  both (B17 k x rows) = left
-  both (B18 k a i j) = left
-  both (B19 k a i) = left
+  both _ = left
 
   both_named : (name : AxiomName)
       → (IsNamed (by_rule (last_rule f)) name ⊎ IsNamed (by_rule_head f h (last_rule f).number) name)
@@ -660,20 +541,6 @@ none_called g effect names same f ok of =
   where
     never : (name : AbaAxiom) → IsOf nothing name → ⊥
     never (B2 a) h = h
-    never (B3 a) h = h
-    never (B5 k r x) h = h
-    never (B6 k r x) h = h
-    never (B7 k r i j) h = h
-    never (B8 k r i) h = h
-    never (B9Con a c) h = h
-    never (B10 k x i j) h = h
-    never (B11 k x i) h = h
-    never (B12 a c) h = h
-    never (B13 a c) h = h
-    never (B14 a) h = h
-    never (B15 a) h = h
-    never (B18 k a i j) h = h
-    never (B19 k a i) h = h
     never _ h = h
 
 -- an edit of abstract frameworks

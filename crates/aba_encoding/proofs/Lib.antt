@@ -1,4 +1,3 @@
-pub mod Affirmed
 pub mod ModelReadings
 pub mod LoopLemmas
 pub mod WorldModels

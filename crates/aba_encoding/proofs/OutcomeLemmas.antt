@@ -8,6 +8,10 @@ use Rattle.std.proofs.Common.{
   ◌<◌,
   ◌-◌,
   ◌↔◌,
+  ◌⊎◌,
+  inl,
+  inr,
+  ⊎_elim,
   ℕ,
   List,
   [],
@@ -36,16 +40,16 @@ use Rattle.edit_rules.specs.declared.effect.EditFault.TheVariants.{WrongKind}
 use Rattle.edit_rules.proofs.EditWordTests.{absent}
 use Rattle.edit_rules.proofs.RefusalLemmas.{EachPasses, done_passes, done_row}
 use Rattle.edit_rules.proofs.AbaOutcomes.{aba_edit_outcome, any_outcome}
-use Rattle.edit_rules.specs.AbaEdits.{AbaRow, aba_outcome, aba_row_outcome, next_rule, numbers_of}
+use Rattle.edit_rules.specs.AbaEdits.{AbaRow, aba_outcome, aba_row_outcome, next_rule, numbers_of, pair_refusals}
 use Rattle.edit_rules.specs.AbaEdits.{assumption_added, assumption_dropped, contrary_added, contrary_dropped, contrary_set, rule_added, rule_dropped}
 use Rattle.edit_rules.proofs.AbaRowForms.{in_range, rule_for}
 use Rattle.edit_rules.proofs.ContraryLists.{contraries_of_members}
 use Rattle.edit_rules.proofs.EditTests.{pair_there, there_pair}
 use Rattle.edit_rules.proofs.RuleLists.{numbered_is}
 use Rattle.af_encoding.specs.Changes.{IsCalledFor, IsEffectOf}
-use Rattle.aba_encoding.specs.Brought.{by_assumption, by_last_rule, by_rule, by_rule_gone, by_rule_head, IsNamed, nothing}
-use Rattle.aba_encoding.specs.Brought.{AreAtoms, by_contrary_added, by_contrary_gone, by_contrary_set}
-use Rattle.aba_encoding.proofs.BroughtLemmas.{called}
+use Rattle.aba_encoding.specs.Brought.{by_assumption, by_last_rule, by_rule_added, by_rule_gone, IsNamed, nothing}
+use Rattle.aba_encoding.specs.Brought.{AreAtoms, Brought, IsEdited, by_contrary_added, by_contrary_gone, by_contrary_set}
+use Rattle.aba_encoding.proofs.BroughtLemmas.{Brings, called}
 use Rattle.aba_encoding.proofs.EditsBring.{assumption_brings, assumption_gone, rule_brings, rule_gone_brings}
 use Rattle.aba_encoding.proofs.EditsBring.{added_brings, contrary_gone_brings, set_brings}
 use Rattle.aba_encoding.proofs.ContraryLemmas.{contraries_rise, contrary_low, contrary_under}
@@ -109,36 +113,35 @@ made row g effect is =
 
 -- ---- what each edit calls for
 
+-- what is brought has just the axioms that the edit from the one framework to the other calls for
+abbrev pub CallsFor : (f g : Aba) → Brought → Type 0
+CallsFor f g b = (name : AxiomName) → IsNamed b name ↔ IsCalledFor (aba f) (aba g) name
+
+-- what the row of an edit brings, by the framework that the edit leads to
+row_called : (row : AbaRow) (f g : Aba) (effect : Effect) (b : Aba → Brought) → IsMade row g effect
+    → Brings f row.framework (b row.framework) → CallsFor f g (b g)
+row_called row f g effect b is brings = subst (λ h. CallsFor f h (b h)) is.framework (called f _ _ brings)
+
 pub assumption_called : (f g : Aba) (a c : ℕ) (effect : Effect) → IsNumberedAba f
-    → aba_outcome f (AsmAdd a c) ≡ Ok (g, effect) → (name : AxiomName)
-    → IsNamed (by_assumption g a) name ↔ IsCalledFor (aba f) (aba g) name
+    → aba_outcome f (AsmAdd a c) ≡ Ok (g, effect) → CallsFor f g (by_assumption g a)
 assumption_called f g a c effect ok is =
     let row = made (assumption_added f a c) g effect is in
-    subst (λ h. (name : AxiomName) → IsNamed (by_assumption h a) name ↔ IsCalledFor (aba f) (aba h) name)
-    row.framework (called f _ _ (assumption_brings f a c ok (absent f.assumptions a row.none.1.1.0)))
+    row_called _ f g effect (λ h. by_assumption h a) row
+    (assumption_brings f a c ok (absent f.assumptions a row.none.1.1.0))
 
 pub drop_called : (f g : Aba) (a : ℕ) (effect : Effect) → aba_outcome f (AsmDrop a) ≡ Ok (g, effect)
-    → (name : AxiomName) → IsNamed nothing name ↔ IsCalledFor (aba f) (aba g) name
+    → CallsFor f g nothing
 drop_called f g a effect is =
-    let row = made (assumption_dropped f a) g effect is in
-    subst (λ h. (name : AxiomName) → IsNamed nothing name ↔ IsCalledFor (aba f) (aba h) name)
-    row.framework (called f _ nothing (assumption_gone f a))
+    row_called _ f g effect (λ h. nothing) (made (assumption_dropped f a) g effect is) (assumption_gone f a)
 
--- what an edit of contraries says of its numbers
-pub record IsPairOf (f : Aba) (a c : ℕ) : Type 0 where
-  pub there : Contains f.assumptions a
-  pub low : 1 ≤ c
-  pub under : c < 1000001
+-- ---- contraries
 
 pub set_called : (f g : Aba) (a c : ℕ) (effect : Effect) → aba_outcome f (ConSet a c) ≡ Ok (g, effect)
-    → (name : AxiomName) → IsNamed (by_contrary_set a c effect.gone) name ↔ IsCalledFor (aba f) (aba g) name
+    → CallsFor f g (by_contrary_set a c effect.gone)
 set_called f g a c effect is =
     let row = made (contrary_set f a c) g effect is in
-    subst (λ h. (name : AxiomName) → IsNamed (by_contrary_set a c effect.gone) name
-    ↔ IsCalledFor (aba f) (aba h) name)
-    row.framework
-    (called f _ _ (set_brings f a c effect.gone (there f.assumptions a row.none.1.1.0)
-    (sym (ap (λ e. e.gone) row.effect_is))))
+    row_called _ f g effect (λ h. by_contrary_set a c effect.gone) row
+    (set_brings f a c effect.gone (there f.assumptions a row.none.1.1.0) (sym (ap (λ e. e.gone) row.effect_is)))
 
 pub set_under : (f g : Aba) (a c : ℕ) (effect : Effect) → IsNumberedAba f
     → aba_outcome f (ConSet a c) ≡ Ok (g, effect) → c < 1000001
@@ -161,45 +164,50 @@ set_gone f g a c effect ok is =
           record { low = contrary_low f ok a y con; high = omega arith };
     })
 
-pub added_pair : (f g : Aba) (a c : ℕ) (effect : Effect) → IsNumberedAba f
-    → aba_outcome f (ConAdd a c) ≡ Ok (g, effect) → IsPairOf f a c
-added_pair f g a c effect ok is =
-    let row = made (contrary_added f a c) g effect is in
-    let range = in_range 1 f.atoms c row.none.1.0 in
+-- what an edit of one contrary says of its numbers
+pub record IsPairOf (f : Aba) (a c : ℕ) : Type 0 where
+  pub there : Contains f.assumptions a
+  pub low : 1 ≤ c
+  pub under : c < 1000001
+
+pair_of : (f g : Aba) (a c : ℕ) (effect : Effect) → IsNumberedAba f
+    → (aba_outcome f (ConAdd a c) ≡ Ok (g, effect)) ⊎ (aba_outcome f (ConDrop a c) ≡ Ok (g, effect)) → IsPairOf f a c
+pair_of f g a c effect ok which =
+    let passes : EachPasses (pair_refusals 1 f a c) = ⊎_elim
+    (λ is. let none = (made (contrary_added f a c) g effect is).none in (none.0, (none.1.0, (none.1.1.0, tt))))
+    (λ is. let none = (made (contrary_dropped f a c) g effect is).none in (none.0, (none.1.0, (none.1.1.0, tt))))
+    which in
+    let range = in_range 1 f.atoms c passes.1.0 in
     let high = range.1 in
     let most = ok.atoms in
-    record { there = there f.assumptions a row.none.1.1.0; low = range.0; under = omega arith }
+    record { there = there f.assumptions a passes.1.1.0; low = range.0; under = omega arith }
+
+-- the contrary that an edit names, where the edit led here
+pub edited_pair : (g : Aba) (effect : Effect) (a c : ℕ) (edited : IsEdited (aba g) effect)
+    → (effect.edit ≡ ConAdd a c) ⊎ (effect.edit ≡ ConDrop a c) → IsPairOf edited.before a c
+edited_pair g effect a c edited which =
+    pair_of edited.before g a c effect edited.form
+    (⊎_elim (λ e. inl (taken_as edited.before g effect (ConAdd a c) edited.of e))
+    (λ e. inr (taken_as edited.before g effect (ConDrop a c) edited.of e)) which)
 
 pub added_called : (f g : Aba) (a c : ℕ) (effect : Effect) → IsNumberedAba f
-    → aba_outcome f (ConAdd a c) ≡ Ok (g, effect) → (name : AxiomName)
-    → IsNamed (by_contrary_added g a c) name ↔ IsCalledFor (aba f) (aba g) name
+    → aba_outcome f (ConAdd a c) ≡ Ok (g, effect) → CallsFor f g (by_contrary_added g a c)
 added_called f g a c effect ok is =
     let row = made (contrary_added f a c) g effect is in
-    let pair = added_pair f g a c effect ok is in
-    subst (λ h. (name : AxiomName) → IsNamed (by_contrary_added h a c) name ↔ IsCalledFor (aba f) (aba h) name)
-    row.framework
-    (called f _ _ (added_brings f a c pair.there pair.low
-    (λ old. false≢true (sym row.none.1.1.1.0 ∙ there_pair f.contraries (a, c) old))))
-
-pub dropped_pair : (f g : Aba) (a c : ℕ) (effect : Effect) → IsNumberedAba f
-    → aba_outcome f (ConDrop a c) ≡ Ok (g, effect) → IsPairOf f a c
-dropped_pair f g a c effect ok is =
-    let row = made (contrary_dropped f a c) g effect is in
-    let range = in_range 1 f.atoms c row.none.1.0 in
-    let high = range.1 in
-    let most = ok.atoms in
-    record { there = there f.assumptions a row.none.1.1.0; low = range.0; under = omega arith }
+    let pair = pair_of f g a c effect ok (inl is) in
+    row_called _ f g effect (λ h. by_contrary_added h a c) row (added_brings f a c pair.there pair.low
+    (λ old. false≢true (sym row.none.1.1.1.0 ∙ there_pair f.contraries (a, c) old)))
 
 pub dropped_called : (f g : Aba) (a c : ℕ) (effect : Effect) → IsNumberedAba f
-    → aba_outcome f (ConDrop a c) ≡ Ok (g, effect) → (name : AxiomName)
-    → IsNamed (by_contrary_gone g a c) name ↔ IsCalledFor (aba f) (aba g) name
+    → aba_outcome f (ConDrop a c) ≡ Ok (g, effect) → CallsFor f g (by_contrary_gone g a c)
 dropped_called f g a c effect ok is =
+    let pair = pair_of f g a c effect ok (inr is) in
     let row = made (contrary_dropped f a c) g effect is in
-    let pair = dropped_pair f g a c effect ok is in
-    subst (λ h. (name : AxiomName) → IsNamed (by_contrary_gone h a c) name ↔ IsCalledFor (aba f) (aba h) name)
-    row.framework
-    (called f _ _ (contrary_gone_brings f a c pair.there pair.under
-    (pair_there f.contraries (a, c) (not-false _ row.none.1.1.1.0))))
+    let was = pair_there f.contraries (a, c) (not-false _ row.none.1.1.1.0) in
+    row_called _ f g effect (λ h. by_contrary_gone h a c) row
+    (contrary_gone_brings f a c pair.there pair.under was)
+
+-- ---- rules
 
 -- the framework behind a rule that came has it last
 last_is : (f : Aba) (rule : Rule) → rule_at (f.rules ++ rule ∷ []) (length (f.rules ++ rule ∷ []) - 1) ≡ rule
@@ -208,24 +216,13 @@ last_is f rule =
     get_or_push f.rules rule no_rule (length (f.rules ++ rule ∷ []) - 1) (omega arith)
 
 pub rule_called : (f g : Aba) (h : ℕ) (body : List ℕ) (effect : Effect) → IsNumberedAba f
-    → aba_outcome f (RuleAdd h body) ≡ Ok (g, effect) → (name : AxiomName)
-    → IsNamed (by_last_rule g h) name ↔ IsCalledFor (aba f) (aba g) name
+    → aba_outcome f (RuleAdd h body) ≡ Ok (g, effect) → CallsFor f g (by_last_rule g h)
 rule_called f g h body effect ok is =
     let done = done_row (rule_added f h body).refusals _ (g, effect) is in
     let fits = rule_for f h body done.0 in
-    let rule = next_rule f h body in
     let more = (rule_added f h body).framework in
-    subst (λ k. (name : AxiomName) → IsNamed (by_last_rule k h) name ↔ IsCalledFor (aba f) (aba k) name)
-    (ap (λ d. d.0) done.1)
-    (subst (λ q. (name : AxiomName) → IsNamed (record {
-      assumption = λ x. ⊥;
-      contrary = λ x y. ⊥;
-      contrary_step = λ x i j. ⊥;
-      contrary_end = λ x i. ⊥;
-      rule = (by_rule q).rule;
-      step = (by_rule_head more h q.number).step;
-      end = (by_rule_head more h q.number).end;
-    }) name ↔ IsCalledFor (aba f) (aba more) name) (sym (last_is f rule))
+    subst (λ k. CallsFor f k (by_last_rule k h)) (ap (λ d. d.0) done.1)
+    (subst (λ q. CallsFor f more (by_rule_added more h q)) (sym (last_is f (next_rule f h body)))
     (called f more _ (rule_brings f h body ok fits.head)))
 
 pub some_rule : (f g : Aba) (h : ℕ) (body : List ℕ) (effect : Effect) → aba_outcome f (RuleAdd h body) ≡ Ok (g, effect)
@@ -256,18 +253,15 @@ gone_rule f g n effect ok is =
     )
 
 pub loss_called : (f g : Aba) (n : ℕ) (effect : Effect) → IsNumberedAba f
-    → aba_outcome f (RuleDrop n) ≡ Ok (g, effect) → (name : AxiomName)
-    → IsNamed (by_rule_gone g effect.head n) name ↔ IsCalledFor (aba f) (aba g) name
+    → aba_outcome f (RuleDrop n) ≡ Ok (g, effect) → CallsFor f g (by_rule_gone g effect.head n)
 loss_called f g n effect ok is =
     let row = made (rule_dropped f n) g effect is in
     let gone = gone_rule f g n effect ok is in
     let less = (rule_dropped f n).framework in
-    subst (λ k. (name : AxiomName) → IsNamed (by_rule_gone k effect.head n) name ↔ IsCalledFor (aba f) (aba k) name)
-    row.framework
-    (subst (λ h. (name : AxiomName) → IsNamed (by_rule_gone less h n) name ↔ IsCalledFor (aba f) (aba less) name)
-    gone.1.head
-    (subst (λ m. (name : AxiomName) → IsNamed (by_rule_gone (rule_dropped f m).framework gone.0.head m) name
-    ↔ IsCalledFor (aba f) (aba (rule_dropped f m).framework) name) gone.1.numbered
+    subst (λ k. CallsFor f k (by_rule_gone k effect.head n)) row.framework
+    (subst (λ h. CallsFor f less (by_rule_gone less h n)) gone.1.head
+    (subst (λ m. CallsFor f (rule_dropped f m).framework (by_rule_gone (rule_dropped f m).framework gone.0.head m))
+    gone.1.numbered
     (called f _ _ (rule_gone_brings f gone.0 ok gone.1.there))))
 
 -- the number of a rule that goes

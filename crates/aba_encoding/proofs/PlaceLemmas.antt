@@ -4,6 +4,7 @@ use Rattle.std.proofs.lemmas.Bool.{cases_eq, cases_lt}
 use Rattle.std.proofs.lemmas.List.{get_or_default}
 use Rattle.std.proofs.lemmas.List.Elements.{Contains-get_or}
 use Rattle.oracle_face.specs.Walks.{IsWalkStart}
+use Rattle.af_encoding.proofs.WalkLemmas.{not_apart}
 use Rattle.aba_encoding.proofs.WalkLemmas.{AreAhead}
 use Rattle.aba_encoding.specs.Places.{HasNoneAfter, IsCutAt, IsNextAfter, IsPlaceBefore}
 
@@ -86,21 +87,13 @@ module _ (P : ℕ → Type 0) (low : (y : ℕ) → P y → 1 ≤ y) (high : (y :
       (λ h. let is = h.2 in one.gap h.0 h.1 (omega arith) (omega arith)) two.start
 
   pub one_place : (n i k : ℕ) → IsPlaceBefore P n i → IsPlaceBefore P n k → k ≡ i
-  one_place n i k one two =
-      ⊎_elim (λ e. e)
-      (λ other. ⊎_elim (λ lt. absurd (no_later_place n k i two one lt))
-      (λ ge. absurd (no_later_place n i k one two (omega arith))) (cases_lt k i))
-      (cases_eq k i)
+  one_place n i k one two = not_apart k i (no_later_place n k i two one) (no_later_place n i k one two)
 
   no_later_next : (n j m : ℕ) → IsNextAfter P n j → IsNextAfter P n m → j < m → ⊥
   no_later_next n j m one two lt = let past = one.past in two.gap j one.stop (omega arith) lt
 
   pub one_next : (n j m : ℕ) → IsNextAfter P n j → IsNextAfter P n m → m ≡ j
-  one_next n j m one two =
-      ⊎_elim (λ e. e)
-      (λ other. ⊎_elim (λ lt. absurd (no_later_next n m j two one lt))
-      (λ ge. absurd (no_later_next n j m one two (omega arith))) (cases_lt m j))
-      (cases_eq m j)
+  one_next n j m one two = not_apart m j (no_later_next n m j two one) (no_later_next n j m one two)
 
   pub next_ends : (n j : ℕ) → IsNextAfter P n j → HasNoneAfter P n → ⊥
   next_ends n j next none = let past = next.past in none j next.stop (omega arith) (high j next.stop)

@@ -160,28 +160,31 @@ module _ (P Q : ℕ → Type 0) where
         (λ ge. ⊎_elim (λ (e : y ≡ n). lost.gone (subst Q e q)) (λ other. right y q (omega arith) early)
         (cases_eq y n)) (cases_lt y n)
 
+    start_before : (i : ℕ) → IsWalkStart Q i → IsWalkStart P i
+    start_before i = ⊎_elim (λ e. inl e) (λ s. inr (s.0, lost.others s.0 s.1, s.2))
+
+    -- so a walk comes over it by the place before n
+    over : (i j : ℕ) → IsWalkStart Q i → IsFree Q i j → (IsFree P i j → ⊥)
+        → IsPlaceBefore Q n i × (n < j) × IsFree Q (n + 1) j
+    over i j start gap not_so =
+        let in_gap = holds i j gap not_so in
+        let left = in_gap.0 in
+        let right = in_gap.1 in (
+          record { start = start; order = left; gap = λ y q late early. gap y q late (omega arith) },
+          right,
+          λ y q late early. gap y q (omega arith) early,
+        )
+
     pub lost_step : (i j : ℕ) → IsNewStep P Q i j ↔ (IsPlaceBefore Q n i × IsNextAfter Q n j)
     lost_step i j = (
       λ h. let is = h.0 in
-          let in_gap = holds i j is.gap (λ gap. h.1 (record {
-            start = ⊎_elim (λ e. inl e) (λ s. inr (s.0, lost.others s.0 s.1, s.2)) is.start;
+          let round = over i j is.start is.gap (λ gap. h.1 (record {
+            start = start_before i is.start;
             order = is.order;
             gap = gap;
             stop = lost.others j is.stop;
           })) in
-          let left = in_gap.0 in
-          let right = in_gap.1 in (
-            record {
-              start = is.start;
-              order = left;
-              gap = λ y q late early. is.gap y q late (omega arith);
-            },
-            record {
-              past = right;
-              stop = is.stop;
-              gap = λ y q late early. is.gap y q (omega arith) early;
-            },
-          ),
+          (round.0, record { past = round.1; stop = is.stop; gap = round.2 }),
       λ h. let place = h.0 in
           let next = h.1 in
           let order = place.order in
@@ -199,19 +202,8 @@ module _ (P Q : ℕ → Type 0) where
     pub lost_end : (i : ℕ) → IsNewEnd P Q i ↔ (IsPlaceBefore Q n i × HasNoneAfter Q n)
     lost_end i = (
       λ h. let is = h.0 in
-          let in_gap = holds i 1000001 is.gap (λ gap. h.1 (record {
-            start = ⊎_elim (λ e. inl e) (λ s. inr (s.0, lost.others s.0 s.1, s.2)) is.start;
-            gap = gap;
-          })) in
-          let left = in_gap.0 in
-          let right = in_gap.1 in (
-            record {
-              start = is.start;
-              order = left;
-              gap = λ y q late early. is.gap y q late (omega arith);
-            },
-            λ y q late early. is.gap y q (omega arith) early,
-          ),
+          let round = over i 1000001 is.start is.gap (λ gap. h.1 (record { start = start_before i is.start; gap = gap })) in
+          (round.0, round.2),
       λ h. let place = h.0 in (
         record { start = place.start; gap = joined i 1000001 place.gap h.1 },
         λ is. is.gap n lost.was place.order lost.under,

@@ -1,10 +1,11 @@
 -- Walks along numbers of which something holds: there is one step to each of them and one end.
 use Rattle.std.proofs.Common.{◌≡◌, ◌≤◌, ◌<◌, ◌+◌, ◌⊎◌, ℕ, List, [], ◌∷◌, arith, ap, refl, sym, inl, inr, ⊎_elim, subst}
 use Rattle.std.specs.Prelude.{Contains, AllPairs}
-use Rattle.std.proofs.lemmas.Bool.{cases_eq, cases_lt}
+use Rattle.std.proofs.lemmas.Bool.{cases_lt}
 use Rattle.std.proofs.lemmas.List.Elements.{Contains-append_left, Contains-append_right, Contains-append_cases}
 use Rattle.lists.proofs.Membership.{Contains-nil, Contains-head, Contains-tail, Contains-cons_cases}
 use Rattle.af_encoding.proofs.EnumerationLemmas.{pairs_head, pairs_tail}
+use Rattle.af_encoding.proofs.WalkLemmas.{not_apart}
 use Rattle.aba_encoding.specs.Listing.{walk_along}
 use Rattle.oracle_face.specs.Walks.{IsFree, IsWalkStart, IsWalkStep, IsWalkEnd}
 
@@ -43,11 +44,7 @@ module _ (P : ℕ → Type 0) (low : (y : ℕ) → P y → 1 ≤ y) (high : (y :
       omega arith
 
   one_step : (i k j : ℕ) → IsWalkStep P i j → IsWalkStep P k j → i ≡ k
-  one_step i k j first second =
-      ⊎_elim (λ e. e)
-      (λ other. ⊎_elim (λ lt. absurd (no_later_step i k j first second lt))
-      (λ ge. absurd (no_later_step k i j second first (omega arith))) (cases_lt i k))
-      (cases_eq i k)
+  one_step i k j first second = not_apart i k (no_later_step i k j first second) (no_later_step k i j second first)
 
   -- and one end
   no_later_end : (i k : ℕ) → IsWalkEnd P i → IsWalkEnd P k → i < k → ⊥
@@ -57,11 +54,7 @@ module _ (P : ℕ → Type 0) (low : (y : ℕ) → P y → 1 ≤ y) (high : (y :
       omega arith
 
   one_end : (i k : ℕ) → IsWalkEnd P i → IsWalkEnd P k → i ≡ k
-  one_end i k first second =
-      ⊎_elim (λ e. e)
-      (λ other. ⊎_elim (λ lt. absurd (no_later_end i k first second lt))
-      (λ ge. absurd (no_later_end k i second first (omega arith))) (cases_lt i k))
-      (cases_eq i k)
+  one_end i k first second = not_apart i k (no_later_end i k first second) (no_later_end k i second first)
 
   -- ---- walks along lists
 

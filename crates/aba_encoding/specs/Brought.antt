@@ -69,14 +69,11 @@ nothing = record {
 
 -- a with its contraries, where a was no assumption
 abbrev pub by_assumption : Aba → ℕ → Brought
-by_assumption f a = record {
+by_assumption f a = record nothing {
   assumption = λ x. x ≡ a;
   contrary = λ x c. (x ≡ a) × HasContrary f a c;
   contrary_step = λ x i j. (x ≡ a) × IsWalkStep (HasContrary f a) i j;
   contrary_end = λ x i. (x ≡ a) × IsWalkEnd (HasContrary f a) i;
-  rule = λ r P. ⊥;
-  step = λ x i j. ⊥;
-  end = λ x i. ⊥;
 }
 
 -- the number is the only contrary, where 0 is none
@@ -90,26 +87,17 @@ pub record AreAtoms (list : List ℕ) : Type 0 where
 
 -- what a has with c as its only contrary, or with none where c is 0, and had not with the contraries that went
 abbrev pub by_contrary_set : ℕ → ℕ → List ℕ → Brought
-by_contrary_set a c gone = record {
-  assumption = λ x. ⊥;
+by_contrary_set a c gone = record nothing {
   contrary = λ x y. (x ≡ a) × IsOnly c y × (Contains gone y → ⊥);
   contrary_step = λ x i j. (x ≡ a) × IsWalkStep (IsOnly c) i j × (IsWalkStep (Contains gone) i j → ⊥);
   contrary_end = λ x i. (x ≡ a) × IsWalkEnd (IsOnly c) i × (IsWalkEnd (Contains gone) i → ⊥);
-  rule = λ r P. ⊥;
-  step = λ x i j. ⊥;
-  end = λ x i. ⊥;
 }
 
 -- the step past c from such a place, or the end where no contrary is past it, of the walk along the contraries of a
 abbrev pub by_contrary_past : Aba → ℕ → ℕ → (ℕ → Type 0) → Brought
-by_contrary_past f a c From = record {
-  assumption = λ x. ⊥;
-  contrary = λ x y. ⊥;
+by_contrary_past f a c From = record nothing {
   contrary_step = λ x i j. (x ≡ a) × From i × IsNextAfter (HasContrary f a) c j;
   contrary_end = λ x i. (x ≡ a) × From i × HasNoneAfter (HasContrary f a) c;
-  rule = λ r P. ⊥;
-  step = λ x i j. ⊥;
-  end = λ x i. ⊥;
 }
 
 -- where the contrary c went: that step from where the walk came to c
@@ -118,64 +106,38 @@ by_contrary_gone f a c = by_contrary_past f a c (IsPlaceBefore (HasContrary f a)
 
 -- the contrary c of a with the step to it, and the step past it or the end
 abbrev pub by_contrary_added : Aba → ℕ → ℕ → Brought
-by_contrary_added f a c = record {
-  assumption = λ x. ⊥;
+by_contrary_added f a c = record nothing {
   contrary = λ x y. (x ≡ a) × (y ≡ c);
   contrary_step = λ x i j. (x ≡ a)
       × ((IsPlaceBefore (HasContrary f a) c i × (j ≡ c)) ⊎ ((i ≡ c + 1) × IsNextAfter (HasContrary f a) c j));
   contrary_end = λ x i. (x ≡ a) × (i ≡ c + 1) × HasNoneAfter (HasContrary f a) c;
-  rule = λ r P. ⊥;
-  step = λ x i j. ⊥;
-  end = λ x i. ⊥;
 }
 
 -- a rule
 abbrev pub by_rule : Rule → Brought
-by_rule rule = record {
-  assumption = λ x. ⊥;
-  contrary = λ x y. ⊥;
-  contrary_step = λ x i j. ⊥;
-  contrary_end = λ x i. ⊥;
-  rule = λ r P. (r ≡ rule.number) × P rule;
-  step = λ x i j. ⊥;
-  end = λ x i. ⊥;
-}
+by_rule rule = record nothing { rule = λ r P. (r ≡ rule.number) × P rule }
 
 -- the step to n, and the end past it, of the walk along the rules that head h
 abbrev pub by_rule_head : Aba → ℕ → ℕ → Brought
-by_rule_head f h n = record {
-  assumption = λ x. ⊥;
-  contrary = λ x y. ⊥;
-  contrary_step = λ x i j. ⊥;
-  contrary_end = λ x i. ⊥;
-  rule = λ r P. ⊥;
+by_rule_head f h n = record nothing {
   step = λ x i j. (x ≡ h) × IsPlaceBefore (Heads f h) n i × (j ≡ n);
   end = λ x i. (x ≡ h) × (i ≡ n + 1);
 }
+
+-- a rule that heads h, with its step
+abbrev pub by_rule_added : Aba → ℕ → Rule → Brought
+by_rule_added f h rule = record (by_rule_head f h rule.number) { rule = (by_rule rule).rule }
 
 -- the last rule, with its step
 abbrev pub last_rule : Aba → Rule
 last_rule f = rule_at f.rules (length f.rules - 1)
 
 abbrev pub by_last_rule : Aba → ℕ → Brought
-by_last_rule f h = record {
-  assumption = λ x. ⊥;
-  contrary = λ x y. ⊥;
-  contrary_step = λ x i j. ⊥;
-  contrary_end = λ x i. ⊥;
-  rule = (by_rule (last_rule f)).rule;
-  step = (by_rule_head f h (last_rule f).number).step;
-  end = (by_rule_head f h (last_rule f).number).end;
-}
+by_last_rule f h = by_rule_added f h (last_rule f)
 
 -- the step past n, or the end where none is past it, of the walk along the rules that head h
 abbrev pub by_rule_gone : Aba → ℕ → ℕ → Brought
-by_rule_gone f h n = record {
-  assumption = λ x. ⊥;
-  contrary = λ x y. ⊥;
-  contrary_step = λ x i j. ⊥;
-  contrary_end = λ x i. ⊥;
-  rule = λ r P. ⊥;
+by_rule_gone f h n = record nothing {
   step = λ x i j. (x ≡ h) × IsPlaceBefore (Heads f h) n i × IsNextAfter (Heads f h) n j;
   end = λ x i. (x ≡ h) × IsPlaceBefore (Heads f h) n i × HasNoneAfter (Heads f h) n;
 }

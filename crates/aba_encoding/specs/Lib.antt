@@ -1,4 +1,3 @@
-pub mod NumberAtoms
 pub mod AbaModels
 pub mod Listing
 pub mod Places

@@ -2,11 +2,10 @@
 
 ghost use Rattle.std.specs.Prelude.{IfOk};
 ghost use Rattle.lists.specs.Members.{IsSetOf};
-ghost use Rattle.semantics.specs.AbaFrameworks.{Aba, IsNumberedAba};
 ghost use Rattle.meaning_atoms.specs.declared.atom.Atom.TheVariants.{Asm};
 ghost use Rattle.oracle_face.specs.Decoding.{IsDecoded};
 
-use crate::affirming::{NumberAtom, affirmed_numbers};
+use af_encoding::{NumberAtom, affirmed_numbers};
 use lists::Memory;
 use meaning_atoms::AtomLit;
 use set_lists::NumSet;

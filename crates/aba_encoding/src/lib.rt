@@ -2,7 +2,6 @@
 //! assumptions that they are read as, and the loop clause that a model lacks which derives atoms only from one another.
 #![tactic(auto)]
 
-mod affirming;
 mod changing;
 mod contrary_changes;
 mod decoding;

@@ -14,11 +14,11 @@ ghost use Rattle.semantics.specs.Frameworks.{aba};
 ghost use Rattle.oracle_face.specs.Decoding.{IsDecoded, IsModelOf, IsNewLoop, ReadsBack, TellsMembers};
 ghost use Rattle.af_encoding.specs.Decoded.{Affirms};
 ghost use Rattle.aba_encoding.specs.AbaModels.{AddsAtom, IsFirstLoop, IsFounded, IsLoopBeside, IsLoopName};
-ghost use Rattle.aba_encoding.specs.NumberAtoms.{atom_of};
+ghost use Rattle.af_encoding.specs.NumberAtoms.{atom_of};
 
-use crate::affirming::{NumberAtom, affirmed_numbers};
 use crate::decoding::decode;
 use aba_notions::{AbaPlain, Unfounded};
+use af_encoding::{NumberAtom, affirmed_numbers};
 use lists::Memory;
 use loop_clauses::loop_axiom;
 use meaning_atoms::{AtomLit, AxiomName, Closure};

@@ -224,6 +224,13 @@ fn hits_others(f: &AbaLists, s: &Theory) -> bool
         .all(|number| hits_if_outside(f, s, *number))
 }
 
+/// Whether a theory's set lies in another's.
+fn lies_in(s: &Theory, other: &Theory) -> bool
+    ensures { IsTrue result ↔ IsWithin s.now.set other.now.set }
+{
+    is_within(s.set.as_slice(), other.set.as_slice())
+}
+
 /// Whether the set lies in each complete one of the sets.
 fn is_least(f: &AbaLists, all: &[Theory], s: &Theory) -> bool
     requires { HasAllTheories (AbaOf f.now) all.now }
@@ -243,7 +250,7 @@ fn is_in_complete(f: &AbaLists, all: &[Theory], s: &Theory, other: &Theory) -> b
     requires theory { IsTheory (AbaOf f.now) other.now }
     ensures { IsTrue result ↔ IsInComplete (collective_of (AbaOf f.now)) s.now.set other.now.set }
 {
-    !is_complete(f, all, other) || is_within(s.set.as_slice(), other.set.as_slice())
+    !is_complete(f, all, other) || lies_in(s, other)
 }
 
 /// Whether each admissible one of the sets that holds this set is no larger.
@@ -268,10 +275,10 @@ fn has_no_larger(f: &AbaLists, all: &[Theory], s: &Theory, other: &Theory) -> bo
     if !is_admissible(f, all, other) {
         return true;
     }
-    if !is_within(s.set.as_slice(), other.set.as_slice()) {
+    if !lies_in(s, other) {
         return true;
     }
-    is_within(other.set.as_slice(), s.set.as_slice())
+    lies_in(other, s)
 }
 
 /// Whether the set lies in each preferred one of the sets.
@@ -293,7 +300,7 @@ fn is_in_preferred(f: &AbaLists, all: &[Theory], s: &Theory, other: &Theory) -> 
     requires theory { IsTheory (AbaOf f.now) other.now }
     ensures { IsTrue result ↔ IsInPreferred (collective_of (AbaOf f.now)) s.now.set other.now.set }
 {
-    !is_preferred(f, all, other) || is_within(s.set.as_slice(), other.set.as_slice())
+    !is_preferred(f, all, other) || lies_in(s, other)
 }
 
 /// Whether each of the sets that is part of every preferred one lies in this set.
@@ -315,5 +322,5 @@ fn holds_in_all(f: &AbaLists, all: &[Theory], s: &Theory, other: &Theory) -> boo
     requires theory { IsTheory (AbaOf f.now) other.now }
     ensures { IsTrue result ↔ HoldsInAll (collective_of (AbaOf f.now)) s.now.set other.now.set }
 {
-    !is_in_all_preferred(f, all, other) || is_within(other.set.as_slice(), s.set.as_slice())
+    !is_in_all_preferred(f, all, other) || lies_in(other, s)
 }

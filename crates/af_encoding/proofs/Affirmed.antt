@@ -1,4 +1,4 @@
--- The numbers that literals affirm to be members, or live.
+-- The numbers of which literals affirm an atom.
 use Rattle.std.proofs.Common.{◌≡◌, ◌⊎◌, ℕ, Bool, true, List, [], ◌∷◌, ap, sym, refl, subst}
 use Rattle.std.proofs.Common.{inl, inr, ⊎_elim}
 use Rattle.std.specs.Prelude.{Contains, ◌↔◌, Option, Some, None, filter_map}
@@ -7,11 +7,15 @@ use Rattle.lists.specs.Members.{IsSetOf}
 use Rattle.lists.proofs.Membership.{Contains-nil, Contains-head, Contains-tail, Contains-cons_cases}
 use Rattle.semantics.proofs.Decided.{decide_member}
 use Rattle.meaning_atoms.specs.declared.atom.Atom.{Atom}
-use Rattle.meaning_atoms.specs.declared.atom.Atom.TheVariants.{Member, Live}
+use Rattle.meaning_atoms.specs.declared.atom.Atom.TheVariants.{Member, Live, Asm, Der}
 use Rattle.meaning_atoms.specs.declared.atom.AtomLit.{AtomLit}
 use Rattle.meaning_atoms.specs.Literals.{affirmed}
 use Rattle.oracle_face.specs.Decoding.{IsDecoded}
-use Rattle.af_encoding.specs.Decoded.{Affirms, member_at, member_in, live_at, live_in}
+use Rattle.meaning_atoms.specs.declared.atom.Closure.TheVariants.{Own, Rest}
+use Rattle.af_encoding.specs.Decoded.{Affirms}
+use Rattle.af_encoding.specs.declared.affirming.NumberAtom.{NumberAtom}
+use Rattle.af_encoding.specs.declared.affirming.NumberAtom.TheVariants.{Membership, Argument, Assumption, OwnDerived, RestDerived}
+use Rattle.af_encoding.specs.NumberAtoms.{atom_of, number_at, number_in}
 
 cons_cases : {Y : Type 0} (o : Option Y) (ys : List Y) (y : Y)
     → Contains (cons_option o ys) y ↔ ((o ≡ Some y) ⊎ Contains ys y)
@@ -37,32 +41,29 @@ Contains-filter_map h (x ∷ xs) y =
 abbrev literal : Atom → Bool → AtomLit
 literal atom positive = record { atom = atom; positive = positive }
 
-member_is : (atom : Atom) (positive : Bool) (a : ℕ) → member_at atom positive ≡ Some a
-    → literal atom positive ≡ affirmed (Member a)
-member_is (Member b) true a e = let same : b ≡ a = cc in ap (λ x. affirmed (Member x)) same
-member_is _ _ a e = absurd (cc)
+number_is : (which : NumberAtom) (atom : Atom) (positive : Bool) (x : ℕ) → number_at which atom positive ≡ Some x
+    → literal atom positive ≡ affirmed (atom_of which x)
+number_is Membership (Member y) true x e = let same : y ≡ x = cc in ap (λ z. affirmed (Member z)) same
+number_is Argument (Live y) true x e = let same : y ≡ x = cc in ap (λ z. affirmed (Live z)) same
+number_is Assumption (Asm y) true x e = let same : y ≡ x = cc in ap (λ z. affirmed (Asm z)) same
+number_is OwnDerived (Der Own y) true x e = let same : y ≡ x = cc in ap (λ z. affirmed (Der Own z)) same
+number_is RestDerived (Der Rest y) true x e = let same : y ≡ x = cc in ap (λ z. affirmed (Der Rest z)) same
+number_is _ _ _ x e = absurd (cc)
 
-live_is : (atom : Atom) (positive : Bool) (a : ℕ) → live_at atom positive ≡ Some a
-    → literal atom positive ≡ affirmed (Live a)
-live_is (Live b) true a e = let same : b ≡ a = cc in ap (λ x. affirmed (Live x)) same
-live_is _ _ a e = absurd (cc)
+is_number : (which : NumberAtom) (x : ℕ) → number_in which (affirmed (atom_of which x)) ≡ Some x
+is_number Membership x = refl
+is_number Argument x = refl
+is_number Assumption x = refl
+is_number OwnDerived x = refl
+is_number RestDerived x = refl
 
-pub affirmed_members_are : (values : List AtomLit) (a : ℕ)
-    → Contains (filter_map member_in values) a ↔ Affirms values (Member a)
-affirmed_members_are values a =
-    let found = Contains-filter_map member_in values a in (
+pub affirmed_are : (which : NumberAtom) (values : List AtomLit) (x : ℕ)
+    → Contains (filter_map (number_in which) values) x ↔ Affirms values (atom_of which x)
+affirmed_are which values x =
+    let found = Contains-filter_map (number_in which) values x in (
       λ c. let w = found.0 c in
-          subst (λ l. Contains values l) (member_is w.0.atom w.0.positive a w.2) w.1,
-      λ there. found.1 (affirmed (Member a), there, refl),
-    )
-
-pub affirmed_live_are : (values : List AtomLit) (a : ℕ)
-    → Contains (filter_map live_in values) a ↔ Affirms values (Live a)
-affirmed_live_are values a =
-    let found = Contains-filter_map live_in values a in (
-      λ c. let w = found.0 c in
-          subst (λ l. Contains values l) (live_is w.0.atom w.0.positive a w.2) w.1,
-      λ there. found.1 (affirmed (Live a), there, refl),
+          subst (λ l. Contains values l) (number_is which w.0.atom w.0.positive x w.2) w.1,
+      λ there. found.1 (affirmed (atom_of which x), there, is_number which x),
     )
 
 -- the set of a list with these members
@@ -72,18 +73,18 @@ set_with P Q xs same h = record {
   members = λ a. (λ c. (same a).0 ((h.members a).0 c), λ q. (h.members a).1 ((same a).1 q));
 }
 
--- members without those members that are not live are the live members
-pub without_dead : (values : List AtomLit) (members live dead set : List ℕ)
-    → IsSetOf (λ a. Affirms values (Member a)) members → IsSetOf (λ a. Affirms values (Live a)) live
-    → IsSetOf (λ a. Contains members a × (Contains live a → ⊥)) dead
-    → IsSetOf (λ a. Contains members a × (Contains dead a → ⊥)) set → IsSetOf (IsDecoded Live values) set
-without_dead values members live dead set m l d s = record {
+-- members without those members that no such atom vouches for are the members that one vouches for
+pub without_others : (vouch : ℕ → Atom) (values : List AtomLit) (members vouched others set : List ℕ)
+    → IsSetOf (λ a. Affirms values (Member a)) members → IsSetOf (λ a. Affirms values (vouch a)) vouched
+    → IsSetOf (λ a. Contains members a × (Contains vouched a → ⊥)) others
+    → IsSetOf (λ a. Contains members a × (Contains others a → ⊥)) set → IsSetOf (IsDecoded vouch values) set
+without_others vouch values members vouched others set m l d s = record {
   rises = s.rises;
   members = λ a. (
     λ c. let w = (s.members a).0 c in record {
       member = (m.members a).0 w.0;
       vouched = ⊎_elim (λ there. (l.members a).0 there) (λ no. absurd (w.1 ((d.members a).1 (w.0, no))))
-          (decide_member live a);
+          (decide_member vouched a);
     },
     λ h. (s.members a).1 ((m.members a).1 h.member, λ c. ((d.members a).0 c).1 ((l.members a).1 h.vouched)),
   );

@@ -11,7 +11,7 @@ use Rattle.meaning_atoms.specs.declared.axiom.AfAxiom.TheVariants.{A10, A11, A12
 use Rattle.meaning_atoms.specs.declared.axiom.AxiomName.{AxiomName}
 use Rattle.meaning_atoms.specs.declared.axiom.AxiomName.TheVariants.{Af as OfAf, Aba as OfAba}
 use Rattle.meaning_atoms.specs.Worlds.{HasGap}
-use Rattle.oracle_face.specs.Needed.{IsNeededOfAf, IsWalkEnd, IsWalkStart, IsWalkStep}
+use Rattle.oracle_face.specs.Needed.{IsNeeded, IsNeededOfAf, IsWalkEnd, IsWalkStart, IsWalkStep}
 use Rattle.af_encoding.specs.Changes.{HasNoneAfter, IsAlone, IsCalledByAttack, IsCalledByLoss, IsCalledByPairs, IsCalledFor}
 use Rattle.af_encoding.specs.Changes.{IsNextAfter, IsPast, IsPlaceBefore, IsToAttack}
 use Rattle.af_encoding.specs.Told.{told_of}
@@ -136,23 +136,23 @@ lost_end f g ok b a i lost live place none =
       λ end. end.gap b lost.was order (attacker_high f ok b a lost.was),
     )
 
+-- what is needed behind the edit and was not before, under whatever name, is called for
+called_as : (f g : Af) (name other : AxiomName) → name ≡ other
+    → IsNeeded (af g) name × (IsNeeded (af f) name → ⊥) → IsCalledFor (af f) (af g) other
+called_as f g name other e made =
+    subst (IsCalledFor (af f) (af g)) e (record { needed = made.0; new = made.1 })
+
 -- an axiom of the step past b is called for
 pub loss_calls : (f g : Af) → IsNumberedAf f → (b a : ℕ) → IsLostRow f g b a → Contains g.live a → (name : AxiomName)
     → IsCalledByLoss g b a name → IsCalledFor (af f) (af g) name
 loss_calls f g ok b a lost live (OfAf (A5 x k j)) h =
-    let made = lost_step f g b a k j lost live h.1.0 h.1.1 in
-    subst (IsCalledFor (af f) (af g)) (same_three A5 a k j x k j h.0 refl refl)
-    (record { needed = made.0; new = made.1 })
+    called_as f g _ _ (same_three A5 a k j x k j h.0 refl refl) (lost_step f g b a k j lost live h.1.0 h.1.1)
 loss_calls f g ok b a lost live (OfAf (A8 x k j)) h =
-    let made = lost_step f g b a k j lost live h.1.0 h.1.1 in
-    subst (IsCalledFor (af f) (af g)) (same_three A8 a k j x k j h.0 refl refl)
-    (record { needed = made.0; new = made.1 })
+    called_as f g _ _ (same_three A8 a k j x k j h.0 refl refl) (lost_step f g b a k j lost live h.1.0 h.1.1)
 loss_calls f g ok b a lost live (OfAf (A6 x k)) h =
-    let made = lost_end f g ok b a k lost live h.1.0 h.1.1 in
-    subst (IsCalledFor (af f) (af g)) (same_two A6 a k x k h.0 refl) (record { needed = made.0; new = made.1 })
+    called_as f g _ _ (same_two A6 a k x k h.0 refl) (lost_end f g ok b a k lost live h.1.0 h.1.1)
 loss_calls f g ok b a lost live (OfAf (A9 x k)) h =
-    let made = lost_end f g ok b a k lost live h.1.0 h.1.1 in
-    subst (IsCalledFor (af f) (af g)) (same_two A9 a k x k h.0 refl) (record { needed = made.0; new = made.1 })
+    called_as f g _ _ (same_two A9 a k x k h.0 refl) (lost_end f g ok b a k lost live h.1.0 h.1.1)
 loss_calls f g ok b a lost live (OfAf _) h = absurd h
 loss_calls f g ok b a lost live (OfAba name) h = absurd h
 
@@ -193,47 +193,49 @@ new_end f g ok b a i lost end new =
     ))
     (cases_lt b i)
 
+-- so does one of the walk towards an argument that is a
+step_past : (f g : Af) (b a x i j : ℕ) → IsLostRow f g b a → x ≡ a → IsWalkStep g x i j → (IsWalkStep f x i j → ⊥)
+    → (x ≡ a) × (IsPlaceBefore g a b i × IsNextAfter g a b j)
+step_past f g b a x i j lost e step new = (
+  e,
+  new_step f g b a i j lost (subst (λ y. IsWalkStep g y i j) e step)
+      (λ k. new (subst (λ y. IsWalkStep f y i j) (sym e) k)),
+)
+
+end_past : (f g : Af) → IsNumberedAf f → (b a x i : ℕ) → IsLostRow f g b a → x ≡ a → IsWalkEnd g x i
+    → (IsWalkEnd f x i → ⊥) → (x ≡ a) × (IsPlaceBefore g a b i × HasNoneAfter g a b)
+end_past f g ok b a x i lost e end new = (
+  e,
+  new_end f g ok b a i lost (subst (λ y. IsWalkEnd g y i) e end) (λ k. new (subst (λ y. IsWalkEnd f y i) (sym e) k)),
+)
+
+-- nothing else is new
+live_not_new : (f g : Af) (b a : ℕ) → IsLostRow f g b a → (x : ℕ) → x ≡ a → Contains g.live x
+    → (Contains f.live x → ⊥) → ⊥
+live_not_new f g b a lost x e here new =
+    new (subst (Contains f.live) (sym e) (lost.live.1 (subst (Contains g.live) e here)))
+
+attack_not_new : (f g : Af) (b a : ℕ) → IsLostRow f g b a → (y x : ℕ) → x ≡ a → Attacks g y x → (Attacks f y x → ⊥)
+    → ⊥
+attack_not_new f g b a lost y x e here new =
+    new (subst (Attacks f y) (sym e) (lost_kept f g b a lost y (subst (Attacks g y) e here)))
+
 -- an axiom that tells of a and is called for is of the step past b
 pub called_by_loss : (f g : Af) → IsNumberedAf f → (b a : ℕ) → IsLostRow f g b a → (name : AfAxiom) → told_of name ≡ a
     → IsCalledFor (af f) (af g) (OfAf name) → IsCalledByLoss g b a (OfAf name)
-called_by_loss f g ok b a lost (A5 x i j) e h = (
-  e,
-  new_step f g b a i j lost (subst (λ y. IsWalkStep g y i j) e h.needed)
-      (λ k. h.new (subst (λ y. IsWalkStep f y i j) (sym e) k)),
-)
-called_by_loss f g ok b a lost (A8 x i j) e h = (
-  e,
-  new_step f g b a i j lost (subst (λ y. IsWalkStep g y i j) e h.needed)
-      (λ k. h.new (subst (λ y. IsWalkStep f y i j) (sym e) k)),
-)
-called_by_loss f g ok b a lost (A6 x i) e h = (
-  e,
-  new_end f g ok b a i lost (subst (λ y. IsWalkEnd g y i) e h.needed)
-      (λ k. h.new (subst (λ y. IsWalkEnd f y i) (sym e) k)),
-)
-called_by_loss f g ok b a lost (A9 x i) e h = (
-  e,
-  new_end f g ok b a i lost (subst (λ y. IsWalkEnd g y i) e h.needed)
-      (λ k. h.new (subst (λ y. IsWalkEnd f y i) (sym e) k)),
-)
-called_by_loss f g ok b a lost (A1 x) e h =
-    absurd (h.new (subst (Contains f.live) (sym e) (lost.live.1 (subst (Contains g.live) e h.needed))))
-called_by_loss f g ok b a lost (A7 x) e h =
-    absurd (h.new (subst (Contains f.live) (sym e) (lost.live.1 (subst (Contains g.live) e h.needed))))
-called_by_loss f g ok b a lost (A10 x) e h =
-    absurd (h.new (subst (Contains f.live) (sym e) (lost.live.1 (subst (Contains g.live) e h.needed))))
-called_by_loss f g ok b a lost (A11 x) e h =
-    absurd (h.new (subst (Contains f.live) (sym e) (lost.live.1 (subst (Contains g.live) e h.needed))))
-called_by_loss f g ok b a lost (A12 x) e h =
-    absurd (h.new (subst (Contains f.live) (sym e) (lost.live.1 (subst (Contains g.live) e h.needed))))
-called_by_loss f g ok b a lost (A13 x) e h =
-    absurd (h.new (subst (Contains f.live) (sym e) (lost.live.1 (subst (Contains g.live) e h.needed))))
-called_by_loss f g ok b a lost (A2 y x) e h =
-    absurd (h.new (subst (Attacks f y) (sym e) (lost_kept f g b a lost y (subst (Attacks g y) e h.needed))))
-called_by_loss f g ok b a lost (A3 y x) e h =
-    absurd (h.new (subst (Attacks f y) (sym e) (lost_kept f g b a lost y (subst (Attacks g y) e h.needed))))
-called_by_loss f g ok b a lost (A4 y x) e h =
-    absurd (h.new (subst (Attacks f y) (sym e) (lost_kept f g b a lost y (subst (Attacks g y) e h.needed))))
+called_by_loss f g ok b a lost (A5 x i j) e h = step_past f g b a x i j lost e h.needed h.new
+called_by_loss f g ok b a lost (A8 x i j) e h = step_past f g b a x i j lost e h.needed h.new
+called_by_loss f g ok b a lost (A6 x i) e h = end_past f g ok b a x i lost e h.needed h.new
+called_by_loss f g ok b a lost (A9 x i) e h = end_past f g ok b a x i lost e h.needed h.new
+called_by_loss f g ok b a lost (A1 x) e h = absurd (live_not_new f g b a lost x e h.needed h.new)
+called_by_loss f g ok b a lost (A7 x) e h = absurd (live_not_new f g b a lost x e h.needed h.new)
+called_by_loss f g ok b a lost (A10 x) e h = absurd (live_not_new f g b a lost x e h.needed h.new)
+called_by_loss f g ok b a lost (A11 x) e h = absurd (live_not_new f g b a lost x e h.needed h.new)
+called_by_loss f g ok b a lost (A12 x) e h = absurd (live_not_new f g b a lost x e h.needed h.new)
+called_by_loss f g ok b a lost (A13 x) e h = absurd (live_not_new f g b a lost x e h.needed h.new)
+called_by_loss f g ok b a lost (A2 y x) e h = absurd (attack_not_new f g b a lost y x e h.needed h.new)
+called_by_loss f g ok b a lost (A3 y x) e h = absurd (attack_not_new f g b a lost y x e h.needed h.new)
+called_by_loss f g ok b a lost (A4 y x) e h = absurd (attack_not_new f g b a lost y x e h.needed h.new)
 called_by_loss f g ok b a lost (A14 part) e h = absurd (h.new h.needed)
 
 -- ---- an argument that gains an attacker
@@ -288,19 +290,15 @@ past_end f g b a gained low live none = (
 to_attack_calls : (f g : Af) (b a : ℕ) → IsGainedRow f g b a → Contains g.live a → (name : AxiomName)
     → IsToAttack g b a name → IsCalledFor (af f) (af g) name
 to_attack_calls f g b a gained live (OfAf (A2 y x)) h =
-    subst (IsCalledFor (af f) (af g)) (same_two A2 b a y x h.0 h.1) (record { needed = gained.now; new = gained.fresh })
+    called_as f g _ _ (same_two A2 b a y x h.0 h.1) (gained.now, gained.fresh)
 to_attack_calls f g b a gained live (OfAf (A3 y x)) h =
-    subst (IsCalledFor (af f) (af g)) (same_two A3 b a y x h.0 h.1) (record { needed = gained.now; new = gained.fresh })
+    called_as f g _ _ (same_two A3 b a y x h.0 h.1) (gained.now, gained.fresh)
 to_attack_calls f g b a gained live (OfAf (A4 y x)) h =
-    subst (IsCalledFor (af f) (af g)) (same_two A4 b a y x h.0 h.1) (record { needed = gained.now; new = gained.fresh })
+    called_as f g _ _ (same_two A4 b a y x h.0 h.1) (gained.now, gained.fresh)
 to_attack_calls f g b a gained live (OfAf (A5 x k j)) h =
-    let made = to_step f g b a k gained live h.1.0 in
-    subst (IsCalledFor (af f) (af g)) (same_three A5 a k b x k j h.0 refl h.1.1)
-    (record { needed = made.0; new = made.1 })
+    called_as f g _ _ (same_three A5 a k b x k j h.0 refl h.1.1) (to_step f g b a k gained live h.1.0)
 to_attack_calls f g b a gained live (OfAf (A8 x k j)) h =
-    let made = to_step f g b a k gained live h.1.0 in
-    subst (IsCalledFor (af f) (af g)) (same_three A8 a k b x k j h.0 refl h.1.1)
-    (record { needed = made.0; new = made.1 })
+    called_as f g _ _ (same_three A8 a k b x k j h.0 refl h.1.1) (to_step f g b a k gained live h.1.0)
 to_attack_calls f g b a gained live (OfAf _) h = absurd h
 to_attack_calls f g b a gained live (OfAba name) h = absurd h
 
@@ -380,6 +378,23 @@ end_by_attack f g b a i gained end new =
     })))
     (cases_eq i (b + 1))
 
+-- the same of a walk towards an argument that is a
+step_by_pair : (f g : Af) (b a x i j : ℕ) → IsGainedRow f g b a → x ≡ a → IsWalkStep g x i j
+    → (IsWalkStep f x i j → ⊥)
+    → ((x ≡ a) × (IsPlaceBefore g a b i × (j ≡ b))) ⊎ ((x ≡ a) × ((i ≡ b + 1) × IsNextAfter g a b j))
+step_by_pair f g b a x i j gained e step new =
+    ⊎_elim (λ to. inl (e, to)) (λ past. inr (e, past))
+    (step_by_attack f g b a i j gained (subst (λ y. IsWalkStep g y i j) e step)
+    (λ k. new (subst (λ y. IsWalkStep f y i j) (sym e) k)))
+
+end_by_pair : (f g : Af) (b a x i : ℕ) → IsGainedRow f g b a → x ≡ a → IsWalkEnd g x i → (IsWalkEnd f x i → ⊥)
+    → (x ≡ a) × ((i ≡ b + 1) × HasNoneAfter g a b)
+end_by_pair f g b a x i gained e end new = (
+  e,
+  end_by_attack f g b a i gained (subst (λ y. IsWalkEnd g y i) e end)
+      (λ k. new (subst (λ y. IsWalkEnd f y i) (sym e) k)),
+)
+
 live_by_attack : (f g : Af) (b a x : ℕ) → IsGainedRow f g b a → x ≡ a → Contains g.live x → Contains f.live x
 live_by_attack f g b a x gained e c =
     subst (Contains f.live) (sym e) (gained.live.1 (subst (Contains g.live) e c))
@@ -397,26 +412,10 @@ called_by_attack : (f g : Af) (b a : ℕ) → IsGainedRow f g b a → (name : Af
 called_by_attack f g b a gained (A2 y x) e h = inl (attack_by_attack f g b a y x gained e h.needed h.new, e)
 called_by_attack f g b a gained (A3 y x) e h = inl (attack_by_attack f g b a y x gained e h.needed h.new, e)
 called_by_attack f g b a gained (A4 y x) e h = inl (attack_by_attack f g b a y x gained e h.needed h.new, e)
-called_by_attack f g b a gained (A5 x i j) e h =
-    ⊎_elim (λ to. inl (e, to)) (λ past. inr (e, past))
-    (step_by_attack f g b a i j gained (subst (λ y. IsWalkStep g y i j) e h.needed)
-    (λ k. h.new (subst (λ y. IsWalkStep f y i j) (sym e) k)))
-called_by_attack f g b a gained (A8 x i j) e h =
-    ⊎_elim (λ to. inl (e, to)) (λ past. inr (e, past))
-    (step_by_attack f g b a i j gained (subst (λ y. IsWalkStep g y i j) e h.needed)
-    (λ k. h.new (subst (λ y. IsWalkStep f y i j) (sym e) k)))
-called_by_attack f g b a gained (A6 x i) e h =
-    inr (
-      e,
-      end_by_attack f g b a i gained (subst (λ y. IsWalkEnd g y i) e h.needed)
-          (λ k. h.new (subst (λ y. IsWalkEnd f y i) (sym e) k)),
-    )
-called_by_attack f g b a gained (A9 x i) e h =
-    inr (
-      e,
-      end_by_attack f g b a i gained (subst (λ y. IsWalkEnd g y i) e h.needed)
-          (λ k. h.new (subst (λ y. IsWalkEnd f y i) (sym e) k)),
-    )
+called_by_attack f g b a gained (A5 x i j) e h = step_by_pair f g b a x i j gained e h.needed h.new
+called_by_attack f g b a gained (A8 x i j) e h = step_by_pair f g b a x i j gained e h.needed h.new
+called_by_attack f g b a gained (A6 x i) e h = inr (end_by_pair f g b a x i gained e h.needed h.new)
+called_by_attack f g b a gained (A9 x i) e h = inr (end_by_pair f g b a x i gained e h.needed h.new)
 called_by_attack f g b a gained (A1 x) e h = absurd (h.new (live_by_attack f g b a x gained e h.needed))
 called_by_attack f g b a gained (A7 x) e h = absurd (h.new (live_by_attack f g b a x gained e h.needed))
 called_by_attack f g b a gained (A10 x) e h = absurd (h.new (live_by_attack f g b a x gained e h.needed))
@@ -503,24 +502,14 @@ alone_end f g n i gains e = record { live = gains.now; start = inl e; gap = λ x
 
 alone_calls : (f g : Af) (n : ℕ) → GainsArgument f g n → (name : AxiomName) → IsAlone n name
     → IsCalledFor (af f) (af g) name
-alone_calls f g n gains (OfAf (A1 x)) h =
-    subst (IsCalledFor (af f) (af g)) (same_one A1 n x h) (record { needed = gains.now; new = gains.fresh })
-alone_calls f g n gains (OfAf (A7 x)) h =
-    subst (IsCalledFor (af f) (af g)) (same_one A7 n x h) (record { needed = gains.now; new = gains.fresh })
-alone_calls f g n gains (OfAf (A10 x)) h =
-    subst (IsCalledFor (af f) (af g)) (same_one A10 n x h) (record { needed = gains.now; new = gains.fresh })
-alone_calls f g n gains (OfAf (A11 x)) h =
-    subst (IsCalledFor (af f) (af g)) (same_one A11 n x h) (record { needed = gains.now; new = gains.fresh })
-alone_calls f g n gains (OfAf (A12 x)) h =
-    subst (IsCalledFor (af f) (af g)) (same_one A12 n x h) (record { needed = gains.now; new = gains.fresh })
-alone_calls f g n gains (OfAf (A13 x)) h =
-    subst (IsCalledFor (af f) (af g)) (same_one A13 n x h) (record { needed = gains.now; new = gains.fresh })
-alone_calls f g n gains (OfAf (A6 x i)) h =
-    subst (IsCalledFor (af f) (af g)) (same_two A6 n i x i h.0 refl)
-    (record { needed = alone_end f g n i gains h.1; new = λ end. gains.fresh end.live })
-alone_calls f g n gains (OfAf (A9 x i)) h =
-    subst (IsCalledFor (af f) (af g)) (same_two A9 n i x i h.0 refl)
-    (record { needed = alone_end f g n i gains h.1; new = λ end. gains.fresh end.live })
+alone_calls f g n gains (OfAf (A1 x)) h = called_as f g _ _ (same_one A1 n x h) (gains.now, gains.fresh)
+alone_calls f g n gains (OfAf (A7 x)) h = called_as f g _ _ (same_one A7 n x h) (gains.now, gains.fresh)
+alone_calls f g n gains (OfAf (A10 x)) h = called_as f g _ _ (same_one A10 n x h) (gains.now, gains.fresh)
+alone_calls f g n gains (OfAf (A11 x)) h = called_as f g _ _ (same_one A11 n x h) (gains.now, gains.fresh)
+alone_calls f g n gains (OfAf (A12 x)) h = called_as f g _ _ (same_one A12 n x h) (gains.now, gains.fresh)
+alone_calls f g n gains (OfAf (A13 x)) h = called_as f g _ _ (same_one A13 n x h) (gains.now, gains.fresh)
+alone_calls f g n gains (OfAf (A6 x i)) h = called_as f g _ _ (same_two A6 n i x i h.0 refl) (alone_end f g n i gains h.1, λ end. gains.fresh end.live)
+alone_calls f g n gains (OfAf (A9 x i)) h = called_as f g _ _ (same_two A9 n i x i h.0 refl) (alone_end f g n i gains h.1, λ end. gains.fresh end.live)
 alone_calls f g n gains (OfAf _) h = absurd h
 alone_calls f g n gains (OfAba name) h = absurd h
 

@@ -1,7 +1,6 @@
 -- What the list of the axioms that an edit calls for gains.
 use Rattle.std.proofs.Common.{◌≡◌, ◌<◌, ◌+◌, ◌⊎◌, ◌↔◌, ℕ, List, [], ◌∷◌, ◌++◌, length, get_or, map, take, arith, refl, sym, subst, inl, inr, ⊎_elim}
 use Rattle.std.specs.Prelude.{Contains, Result, Ok, Err, OnOk}
-use Rattle.std.proofs.lemmas.Bool.{cases_lt, cases_eq}
 use Rattle.std.proofs.lemmas.List.{take_more}
 use Rattle.std.proofs.lemmas.List.Elements.{Contains-append_cases, Contains-append_left, Contains-append_right}
 use Rattle.lists.specs.declared.memory.Memory.{Memory}
@@ -17,7 +16,7 @@ use Rattle.edit_rules.specs.declared.effect.Effect.{Effect}
 use Rattle.af_encoding.specs.Changes.{Gains, GainsCalled, IsCalledFor, IsEffectOf, HasNoneAfter, IsAlone, IsCalledByLoss, IsCalledByPair}
 use Rattle.af_encoding.specs.Changes.{IsCalledByPairs, IsNextAfter, IsPast, IsPlaceBefore, IsToAttack}
 use Rattle.af_encoding.proofs.NeededLemmas.{listed, same_one, same_three, same_two}
-use Rattle.af_encoding.proofs.WalkLemmas.{attacker_high, position_low}
+use Rattle.af_encoding.proofs.WalkLemmas.{attacker_high, not_apart, position_low}
 
 -- ---- gains
 
@@ -79,22 +78,14 @@ no_later_place f a b i k one two lt =
     (λ h. let is : k ≡ h.0 + 1 = h.2 in one.gap h.0 h.1 (omega arith) (omega arith)) two.start
 
 pub one_place : (f : Af) (a b i k : ℕ) → IsPlaceBefore f a b i → IsPlaceBefore f a b k → k ≡ i
-one_place f a b i k one two =
-    ⊎_elim (λ e. e)
-    (λ other. ⊎_elim (λ lt. absurd (no_later_place f a b k i two one lt))
-    (λ ge. absurd (no_later_place f a b i k one two (omega arith))) (cases_lt k i))
-    (cases_eq k i)
+one_place f a b i k one two = not_apart k i (no_later_place f a b k i two one) (no_later_place f a b i k one two)
 
 no_later_next : (f : Af) (a b j m : ℕ) → IsNextAfter f a b j → IsNextAfter f a b m → j < m → ⊥
 no_later_next f a b j m one two lt =
     let past = one.past in two.gap j one.attack (omega arith) lt
 
 one_next : (f : Af) (a b j m : ℕ) → IsNextAfter f a b j → IsNextAfter f a b m → m ≡ j
-one_next f a b j m one two =
-    ⊎_elim (λ e. e)
-    (λ other. ⊎_elim (λ lt. absurd (no_later_next f a b m j two one lt))
-    (λ ge. absurd (no_later_next f a b j m one two (omega arith))) (cases_lt m j))
-    (cases_eq m j)
+one_next f a b j m one two = not_apart m j (no_later_next f a b m j two one) (no_later_next f a b j m one two)
 
 next_ends : (f : Af) → IsNumberedAf f → (a b j : ℕ) → IsNextAfter f a b j → HasNoneAfter f a b → ⊥
 next_ends f ok a b j next none =

@@ -14,6 +14,9 @@ use Rattle.meaning_atoms.specs.declared.axiom.AfAxiom.TheVariants.{A1, A2, A3, A
 use Rattle.meaning_atoms.specs.declared.axiom.AfAxiom.TheVariants.{A10, A11, A12, A13, A14}
 use Rattle.meaning_atoms.specs.declared.axiom.AxiomName.{AxiomName}
 use Rattle.meaning_atoms.specs.declared.axiom.AxiomName.TheVariants.{Af as OfAf, Aba as OfAba}
+use Rattle.semantics.specs.Arguments.{IsArgument}
+use Rattle.meaning_atoms.specs.Atoms.{IsPosition}
+use Rattle.meaning_atoms.specs.Axioms.{IsStretch}
 use Rattle.meaning_atoms.specs.Worlds.{HasGap}
 use Rattle.dung_notions.specs.Neighbours.{ListsAttackers}
 use Rattle.af_encoding.specs.Enumerations.{Enumerates, GainsEach}
@@ -562,32 +565,30 @@ names_end f ok n names all gains =
 
 -- ---- the names are names of axioms
 
+step_is_stretch : (f : Af) → IsNumberedAf f → (a i j : ℕ) → IsWalkStep f a i j → IsStretch a i j
+step_is_stretch f ok a i j h = record {
+  argument = ok.live a (ok.form.ends j a h.attack).1;
+  from = position_low f a i h.start;
+  order = h.order;
+  before_end = attacker_high f ok j a h.attack;
+}
+
+end_is_position : (f : Af) → IsNumberedAf f → (a i : ℕ) → IsWalkEnd f a i → IsArgument a × IsPosition i
+end_is_position f ok a i h = (
+  ok.live a h.live,
+  record { low = position_low f a i h.start; high = position_high f ok a i h.start },
+)
+
 pub needed_is_name : (f : Af) → IsNumberedAf f → (name : AxiomName) → IsNeeded (af f) name → IsAxiomOf (af f) name
 needed_is_name f ok (OfAf (A1 a)) h = ok.live a h
 needed_is_name f ok (OfAf (A2 b a)) h = let ends = ok.form.ends b a h in (ok.live b ends.0, ok.live a ends.1)
 needed_is_name f ok (OfAf (A3 b a)) h = let ends = ok.form.ends b a h in (ok.live b ends.0, ok.live a ends.1)
 needed_is_name f ok (OfAf (A4 b a)) h = let ends = ok.form.ends b a h in (ok.live b ends.0, ok.live a ends.1)
-needed_is_name f ok (OfAf (A5 a i j)) h = record {
-  argument = ok.live a (ok.form.ends j a h.attack).1;
-  from = position_low f a i h.start;
-  order = h.order;
-  before_end = attacker_high f ok j a h.attack;
-}
-needed_is_name f ok (OfAf (A6 a i)) h = (
-  ok.live a h.live,
-  record { low = position_low f a i h.start; high = position_high f ok a i h.start },
-)
+needed_is_name f ok (OfAf (A5 a i j)) h = step_is_stretch f ok a i j h
+needed_is_name f ok (OfAf (A6 a i)) h = end_is_position f ok a i h
 needed_is_name f ok (OfAf (A7 a)) h = ok.live a h
-needed_is_name f ok (OfAf (A8 a i j)) h = record {
-  argument = ok.live a (ok.form.ends j a h.attack).1;
-  from = position_low f a i h.start;
-  order = h.order;
-  before_end = attacker_high f ok j a h.attack;
-}
-needed_is_name f ok (OfAf (A9 a i)) h = (
-  ok.live a h.live,
-  record { low = position_low f a i h.start; high = position_high f ok a i h.start },
-)
+needed_is_name f ok (OfAf (A8 a i j)) h = step_is_stretch f ok a i j h
+needed_is_name f ok (OfAf (A9 a i)) h = end_is_position f ok a i h
 needed_is_name f ok (OfAf (A10 a)) h = ok.live a h
 needed_is_name f ok (OfAf (A11 a)) h = ok.live a h
 needed_is_name f ok (OfAf (A12 a)) h = ok.live a h

@@ -33,6 +33,12 @@ past_gap f a i k j low gap at later =
     ⊎_elim (λ before. absurd (gap h.0 h.1 (omega arith) before)) (λ behind. omega arith) (cases_lt h.0 j))
     at
 
+-- of two numbers of which neither is below the other, each is the other
+pub not_apart : (i k : ℕ) → (i < k → ⊥) → (k < i → ⊥) → i ≡ k
+not_apart i k above below =
+    ⊎_elim (λ e. e)
+    (λ other. ⊎_elim (λ lt. absurd (above lt)) (λ ge. absurd (below (omega arith))) (cases_lt i k)) (cases_eq i k)
+
 no_later_step : (f : Af) (a i k j : ℕ) → IsWalkStep f a i j → IsWalkStep f a k j → i < k → ⊥
 no_later_step f a i k j first second later =
     let past = past_gap f a i k j (position_low f a i first.start) first.gap second.start later in
@@ -41,11 +47,7 @@ no_later_step f a i k j first second later =
 
 -- there is one step to each attacker
 pub one_step : (f : Af) (a i k j : ℕ) → IsWalkStep f a i j → IsWalkStep f a k j → i ≡ k
-one_step f a i k j first second =
-    ⊎_elim (λ e. e)
-    (λ other. ⊎_elim (λ lt. absurd (no_later_step f a i k j first second lt))
-    (λ ge. absurd (no_later_step f a k i j second first (omega arith))) (cases_lt i k))
-    (cases_eq i k)
+one_step f a i k j first second = not_apart i k (no_later_step f a i k j first second) (no_later_step f a k i j second first)
 
 no_later_end : (f : Af) → IsNumberedAf f → (a i k : ℕ) → IsWalkEnd f a i → IsWalkEnd f a k → i < k → ⊥
 no_later_end f ok a i k first second later =
@@ -55,11 +57,7 @@ no_later_end f ok a i k first second later =
 
 -- there is one end
 pub one_end : (f : Af) → IsNumberedAf f → (a i k : ℕ) → IsWalkEnd f a i → IsWalkEnd f a k → i ≡ k
-one_end f ok a i k first second =
-    ⊎_elim (λ e. e)
-    (λ other. ⊎_elim (λ lt. absurd (no_later_end f ok a i k first second lt))
-    (λ ge. absurd (no_later_end f ok a k i second first (omega arith))) (cases_lt i k))
-    (cases_eq i k)
+one_end f ok a i k first second = not_apart i k (no_later_end f ok a i k first second) (no_later_end f ok a k i second first)
 
 -- a gap that no attacker ends goes on
 longer_gap : (f : Af) (a i p : ℕ) → HasGap f a i p → (Attacks f p a → ⊥) → HasGap f a i (p + 1)

@@ -1,5 +1,5 @@
 -- What a model of the needed axioms tells of the set that it is read as, where the framework is abstract.
-use Rattle.std.specs.Prelude.{◌≡◌, ◌↔◌, ℕ, Bool, true, List, Contains, Option, Some, None}
+use Rattle.std.specs.Prelude.{◌≡◌, ◌↔◌, ℕ, List, Contains}
 use Rattle.semantics.specs.Framework.{Af}
 use Rattle.semantics.specs.Frameworks.{af}
 use Rattle.meaning_atoms.specs.declared.atom.Atom.{Atom}
@@ -26,22 +26,6 @@ IsPlace f _ = ⊥
 pub record Describes (f : Af) (values : List AtomLit) (s : List ℕ) : Type 0 where
   pub modes : (mode : Atom) → IsMode mode → Affirms values mode → HoldsOfAf f s mode
   pub places : (atom : Atom) → IsPlace f atom → Affirms values atom ↔ HoldsOfAf f s atom
-
--- the argument that a literal affirms to be a member, where it does
-abbrev pub member_at : Atom → Bool → Option ℕ
-member_at (Member a) true = Some a
-member_at _ _ = None
-
-abbrev pub member_in : AtomLit → Option ℕ
-member_in l = member_at l.atom l.positive
-
--- the argument that a literal affirms to be live, where it does
-abbrev pub live_at : Atom → Bool → Option ℕ
-live_at (Live a) true = Some a
-live_at _ _ = None
-
-abbrev pub live_in : AtomLit → Option ℕ
-live_in l = live_at l.atom l.positive
 
 -- a model of the axioms that the framework needs, which is read as the set and affirms each mode that the set has
 pub record IsModelOfSet (f : Af) (values : List AtomLit) (s : List ℕ) : Type 0 where

@@ -1,15 +1,16 @@
 //! The set of arguments that a model means.
 
-ghost use Rattle.std.specs.Prelude.{◌≡◌, IfOk};
+ghost use Rattle.std.specs.Prelude.{IfOk};
 ghost use Rattle.lists.specs.Members.{IsSetOf};
 ghost use Rattle.semantics.specs.Framework.{Af};
 ghost use Rattle.semantics.specs.Frameworks.{af, IsNumberedAf};
-ghost use Rattle.meaning_atoms.specs.declared.atom.Atom.TheVariants.{Live, Member};
+ghost use Rattle.meaning_atoms.specs.declared.atom.Atom.TheVariants.{Live};
 ghost use Rattle.oracle_face.specs.Decoding.{IsDecoded, IsModelOf};
-ghost use Rattle.af_encoding.specs.Decoded.{Affirms, Describes, live_in, member_in};
+ghost use Rattle.af_encoding.specs.Decoded.{Describes};
 
+use crate::affirming::{NumberAtom, affirmed_numbers};
 use lists::Memory;
-use meaning_atoms::{Atom, AtomLit};
+use meaning_atoms::AtomLit;
 use set_lists::NumSet;
 use std::alloc::Global;
 
@@ -22,56 +23,8 @@ pub fn decode(alloc: Global, values: &[AtomLit]) -> Result<NumSet, Memory>
     ensures set { IfOk result (IsSetOf (IsDecoded Live values.now)) }
     ensures model { (f : Af) → IsNumberedAf f → IsModelOf (af f) values.now → IfOk result (Describes f values.now) }
 {
-    let members = affirmed_members(alloc, values)?;
-    let live = affirmed_live(alloc, values)?;
+    let members = affirmed_numbers(alloc, values, NumberAtom::Membership)?;
+    let live = affirmed_numbers(alloc, values, NumberAtom::Argument)?;
     let dead = members.minus(alloc, &live)?;
     members.minus(alloc, &dead)
-}
-
-/// The numbers that the literals affirm to be members.
-fn affirmed_members(alloc: Global, values: &[AtomLit]) -> Result<NumSet, Memory>
-    ensures { IfOk result (IsSetOf (λ a. Affirms values.now (Member a))) }
-{
-    let found = values
-        .iter()
-        .filter_map(|literal| affirmed_member(literal))
-        .collect::<Vec<u32>>(alloc)?;
-    NumSet::from_slice(alloc, &found)
-}
-
-/// The numbers that the literals affirm to be live.
-fn affirmed_live(alloc: Global, values: &[AtomLit]) -> Result<NumSet, Memory>
-    ensures { IfOk result (IsSetOf (λ a. Affirms values.now (Live a))) }
-{
-    let found = values
-        .iter()
-        .filter_map(|literal| affirmed_argument(literal))
-        .collect::<Vec<u32>>(alloc)?;
-    NumSet::from_slice(alloc, &found)
-}
-
-/// The number that a literal affirms to be a member.
-fn affirmed_member(literal: &AtomLit) -> Option<u32>
-    ensures { result ≡ member_in literal.now }
-{
-    match *literal {
-        AtomLit {
-            atom: Atom::Member(argument),
-            positive: true,
-        } => Some(argument),
-        _ => None,
-    }
-}
-
-/// The number that a literal affirms to be live.
-fn affirmed_argument(literal: &AtomLit) -> Option<u32>
-    ensures { result ≡ live_in literal.now }
-{
-    match *literal {
-        AtomLit {
-            atom: Atom::Live(argument),
-            positive: true,
-        } => Some(argument),
-        _ => None,
-    }
 }

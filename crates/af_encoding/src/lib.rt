@@ -3,6 +3,7 @@
 //! the framework alone fixes, and the set of arguments that a model of these axioms is read as.
 #![tactic(auto)]
 
+mod affirming;
 mod changing;
 mod decoding;
 mod encoding;
@@ -11,6 +12,7 @@ pub mod laws;
 mod needed_axioms;
 mod neighbourhood;
 
+pub use affirming::{NumberAtom, affirmed_numbers};
 pub use changing::changed;
 pub use decoding::decode;
 pub use encoding::AfEncoding;

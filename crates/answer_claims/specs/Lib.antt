@@ -1,4 +1,5 @@
 pub mod SideClauses
+pub mod Words
 pub mod SetFacts
 pub mod ClaimParts
 pub use Rattle.edit_rules as edit_rules

@@ -1,23 +1,10 @@
 -- Side clauses by what they say of a set.
 use Rattle.std.specs.Prelude.{ℕ, List, map}
 use Rattle.semantics.specs.Frameworks.{Framework}
-use Rattle.meaning_atoms.specs.declared.atom.Atom.TheVariants.{Member, Range, Tail, Hit}
 use Rattle.meaning_atoms.specs.declared.atom.AtomLit.{AtomLit}
-use Rattle.meaning_atoms.specs.declared.atom.Closure.TheVariants.{Own}
-use Rattle.meaning_atoms.specs.Literals.{affirmed, denied}
 use Rattle.certificate_claims.specs.SetLiterals.{outside, differs, wider, attacked}
-use Rattle.answer_claims.specs.declared.sides.Word.{Word}
-use Rattle.answer_claims.specs.declared.sides.Word.TheVariants.{In, Out, Ranged, Struck, Contrary}
 use Rattle.answer_claims.specs.declared.sides.SideKind.{SideKind}
 use Rattle.answer_claims.specs.declared.sides.SideKind.TheVariants.{Outside, Differs, Wider, Attacked}
-
--- the literal that says the word of an argument
-abbrev pub literal_of : Word → ℕ → AtomLit
-literal_of In a = affirmed (Member a)
-literal_of Out a = denied (Member a)
-literal_of Ranged a = affirmed (Range a)
-literal_of Struck a = affirmed (Tail a 1)
-literal_of Contrary a = affirmed (Hit Own a 1)
 
 -- the side clause of a set
 abbrev pub side_of : Framework → SideKind → List ℕ → List AtomLit

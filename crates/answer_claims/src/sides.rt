@@ -5,29 +5,16 @@ ghost use Rattle.meaning_atoms.specs.declared.atom.Atom.TheVariants.{Ask};
 ghost use Rattle.meaning_atoms.specs.Literals.{denied};
 ghost use Rattle.certificate_claims.specs.SetLiterals.{attacked, has, members, wider};
 ghost use Rattle.edit_rules.specs.Kinds.{framework_of};
-ghost use Rattle.answer_claims.specs.SideClauses.{literal_of, side_of};
+ghost use Rattle.answer_claims.specs.SideClauses.{side_of};
+ghost use Rattle.answer_claims.specs.Words.{literal_of};
 
 use crate::kinds::{members_of, range_of};
+use crate::words::{Word, push_all};
 use edit_rules::Framework;
 use lists::Memory;
-use meaning_atoms::{Atom, AtomLit, Closure};
+use meaning_atoms::{Atom, AtomLit};
 use set_lists::NumSet;
 use std::alloc::Global;
-
-/// What a literal says of an argument.
-#[derive(Clone, Copy, PartialEq, Eq)]
-pub(crate) enum Word {
-    /// It is a member.
-    In,
-    /// It is not a member.
-    Out,
-    /// It is in the range.
-    Ranged,
-    /// A member attacks it.
-    Struck,
-    /// The set derives a contrary of it.
-    Contrary,
-}
 
 /// What a side clause says of a set.
 #[derive(Clone, Copy)]
@@ -40,44 +27,6 @@ pub enum SideKind {
     Wider,
     /// A member of the set is attacked.
     Attacked,
-}
-
-/// The literal that says so.
-pub(crate) fn literal(word: Word, argument: u32) -> AtomLit
-    ensures { result ≡ literal_of word argument }
-{
-    match word {
-        Word::In => AtomLit {
-            atom: Atom::Member(argument),
-            positive: true,
-        },
-        Word::Out => AtomLit {
-            atom: Atom::Member(argument),
-            positive: false,
-        },
-        Word::Ranged => AtomLit {
-            atom: Atom::Range(argument),
-            positive: true,
-        },
-        Word::Struck => AtomLit {
-            atom: Atom::Tail(argument, 1),
-            positive: true,
-        },
-        Word::Contrary => AtomLit {
-            atom: Atom::Hit(Closure::Own, argument, 1),
-            positive: true,
-        },
-    }
-}
-
-/// Adds the literals that say so of each number.
-fn push_all(clause: &mut Vec<AtomLit>, word: Word, numbers: &[u32]) -> Result<(), Memory>
-    ensures { OnOk result (clause.new.items ≡ clause.old.items ++ map (literal_of word) numbers.now) }
-{
-    for number in numbers {
-        clause.push(literal(word, *number))?;
-    }
-    Ok(())
 }
 
 /// Whether a number is no member.

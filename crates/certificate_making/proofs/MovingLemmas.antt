@@ -1,6 +1,6 @@
--- Loops that move literals, and that number the kept steps.
+-- Loops that move literals, and that number the kept steps; and where a derived step comes from.
 use Rattle.std.proofs.Common.{◌≡◌, ⊎_elim, ℕ, true, ◌+◌, ◌<◌, ◌≤◌, List, length, map, get_or, ap}
-use Rattle.std.proofs.Common.{sym, subst, ◌∙◌, arith}
+use Rattle.std.proofs.Common.{sym, subst, ◌∙◌, arith, refl}
 use Rattle.std.specs.Prelude.{Contains, slice_index_or}
 use Rattle.std.proofs.Math.ListN.{set, length-set}
 use Rattle.std.proofs.lemmas.Bool.{cases_eq}
@@ -8,6 +8,11 @@ use Rattle.std.proofs.lemmas.List.{get_or-set_same, get_or-set_other, get_or-map
 use Rattle.std.proofs.lemmas.List.{ext_get_or}
 use Rattle.meaning_atoms.specs.declared.atom.Atom.TheVariants.{Cf}
 use Rattle.meaning_atoms.specs.declared.atom.AtomLit.{AtomLit}
+use Rattle.meaning_atoms.specs.declared.axiom.AxiomName.{AxiomName}
+use Rattle.oracle_face.specs.declared.step_source.StepSource.{StepSource}
+use Rattle.oracle_face.specs.declared.step_source.StepSource.TheVariants.{Axiom, Side, Entry, Hints}
+use Rattle.oracle_face.specs.Logs.{Source, by_hints, hints_of}
+use Rattle.certificate_making.specs.Origins.{IsOrigin}
 use Rattle.certificate_making.specs.Moving.{AreMovedTo}
 use Rattle.certificate_making.specs.Trimmed.{moved_lit}
 
@@ -47,3 +52,11 @@ moved_all positions old now count le h =
 -- an item of a list is a member
 pub item_listed : (xs : List ℕ) (i x : ℕ) → i < length xs → x ≡ get_or xs i x → Contains xs x
 item_listed xs i x lt is = (i, lt, sym is)
+
+-- a step that is told as neither an axiom's nor a side clause's is derived
+pub derived_source : (source : Source) (origin : StepSource) → ((name : AxiomName) → origin ≡ Axiom name → ⊥)
+    → ((n : ℕ) → origin ≡ Side n → ⊥) → IsOrigin source origin → source ≡ by_hints (hints_of source)
+derived_source source (Axiom name) no_axiom no_side is = absurd (no_axiom name refl)
+derived_source source (Side n) no_axiom no_side is = absurd (no_side n refl)
+derived_source source (Entry name) no_axiom no_side is = is
+derived_source source Hints no_axiom no_side is = is

@@ -94,6 +94,8 @@ pub(crate) fn moved_step<L: ReadLog>(
     match log.origin(alloc, step)? {
         StepSource::Axiom(name) => Ok(Step::Axiom(name)),
         StepSource::Side(side) => Ok(Step::Side(position(positions, side.number()))),
-        StepSource::Entry(_) | StepSource::Hints => moved_derived(alloc, log, step, positions, numbers),
+        StepSource::Entry(_) | StepSource::Hints => moved_derived(
+            alloc, log, step, positions, numbers,
+        ),
     }
 }

@@ -7,10 +7,10 @@ ghost use Rattle.entry_taking.specs.declared.names.StepName.TheVariants.{Axiom};
 
 use crate::name_digest::digest_of;
 use atom_solver::AtomSolver;
-use oracle_face::StepSource;
 use indexmap::IndexMap;
 use lists::Memory;
 use meaning_atoms::AxiomName;
+use oracle_face::StepSource;
 use plain_lits::StepId;
 use std::alloc::Global;
 use std::hash::{Hash, Hasher};

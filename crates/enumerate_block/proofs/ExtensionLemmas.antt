@@ -22,7 +22,7 @@ use Rattle.iccma_tasks.specs.declared.task.Task.{Task}
 use Rattle.iccma_tasks.specs.Tasks.{HasTask}
 use Rattle.certificate_claims.specs.declared.row.Row.{Row}
 use Rattle.certificate_claims.specs.declared.row.Row.TheVariants.{AllTested, AllLargest, AllWidest, Excluded}
-use Rattle.certificate_claims.specs.Acceptance.{NoRangeWithin, Tests}
+use Rattle.certificate_claims.specs.Acceptance.{Tests}
 use Rattle.certificate_claims.specs.Claims.{claim_of, claims, mode_atom, widest_semantics}
 use Rattle.certificate_claims.specs.Rights.{IsExtension, SetsRise}
 use Rattle.certificate_claims.specs.SetLiterals.{differs, outside, wider}
@@ -50,7 +50,7 @@ use Rattle.enumerate_block.specs.declared.ranges.Ranged.{Ranged}
 use Rattle.enumerate_block.specs.declared.ranges.Ranged.TheVariants.{Whole as WholeRanged, TooMany as MoreThanRanged}
 use Rattle.enumerate_block.specs.Ranges.{AreRefuted, IsAllWidest, IsAllOrMore as IsRangedList, IsShownWidest}
 use Rattle.enumerate_block.specs.Ranges.{MadeForRanges}
-use Rattle.enumerate_block.proofs.RangeLemmas.{no_range_within}
+use Rattle.enumerate_block.proofs.RangeTurns.{no_range_within}
 use Rattle.enumerate_block.proofs.StepLemmas.{refuted_first, refuted_none}
 use Rattle.enumerate_block.proofs.WidthLemmas.{widest_has_mode}
 use Rattle.enumerate_block.specs.Extensions.{AreExtensions, IsListOf, IsListTask, IsModeOf, IsShownOne, MadeForAll}

@@ -6,6 +6,8 @@ pub mod PreferredLemmas
 mod KnownRanges
 pub mod MarkLemmas
 pub mod WidthLemmas
-pub mod RangeLemmas
+pub mod FoundRanges
+pub mod NewRanges
+pub mod RangeTurns
 pub mod StepLemmas
 pub mod WitnessLemmas

@@ -1,4 +1,4 @@
-use Rattle.std.proofs.Common.{◌≡◌, inl, inr, ⊎_elim, ℕ, suc, ◌+◌, ◌*◌, ◌<◌, ◌≤◌, true, false, Bool, List, [], ◌∷◌}
+use Rattle.std.proofs.Common.{◌≡◌, inl, inr, ⊎_elim, ℕ, ◌+◌, ◌*◌, ◌<◌, ◌≤◌, true, false, Bool, List, [], ◌∷◌}
 use Rattle.std.proofs.Common.{◌++◌, length, map, filter, refl, ap, sym, subst, ◌∙◌, arith}
 use Rattle.std.specs.Prelude.{◌⊎◌, ◌↔◌, Contains, slice_index_or, Option, Some, None, Result, Ok, Err, IfOk}
 use Rattle.std.proofs.lemmas.Bool.{false≢true}
@@ -13,9 +13,8 @@ use Rattle.semantics.specs.Frameworks.{Framework, af, aba, IsNumbered}
 use Rattle.semantics.proofs.SameMembers.{range_more}
 use Rattle.meaning_atoms.specs.declared.atom.Atom.{Atom}
 use Rattle.meaning_atoms.specs.declared.atom.Atom.TheVariants.{Member, Range}
-use Rattle.meaning_atoms.specs.declared.atom.AtomLit.{AtomLit}
 use Rattle.meaning_atoms.specs.Literals.{affirmed, denied}
-use Rattle.meaning_atoms.specs.Worlds.{HoldsOf, IsTrueAlone, Says, world_of}
+use Rattle.meaning_atoms.specs.Worlds.{HoldsOf, Says}
 use Rattle.certificate_claims.specs.Acceptance.{no_claim}
 use Rattle.certificate_claims.specs.Claims.{claim_of, claims, mode_atom, range_cover, range_free, range_widest}
 use Rattle.certificate_claims.specs.Claims.{widest_semantics}
@@ -33,7 +32,7 @@ use Rattle.oracle_face.specs.declared.face.Found.TheVariants.{Set, Refuted}
 use Rattle.oracle_face.specs.Goals.{MakesTrue, Refutes, SpeaksOf}
 use Rattle.oracle_face.specs.Growing.{Grows, IsFound, Making}
 use Rattle.oracle_face.specs.Kinds.{IsRanged, is_assumption_based}
-use Rattle.oracle_face.specs.Logs.{IsKept, IsLog, IsNumberOf, IsSameClause, OracleLog, SideClause, side_at}
+use Rattle.oracle_face.specs.Logs.{IsKept, IsLog, IsNumberOf, OracleLog, SideClause, side_at}
 use Rattle.oracle_face.proofs.Refuting.{claim_excluded, refutes_grown}
 use Rattle.goal_lists.specs.Asking.{AreApart, IsAskable, goals_of}
 use Rattle.goal_lists.specs.Sides.{IsAskOf}
@@ -49,11 +48,13 @@ use Rattle.enumerate_block.specs.semi_stable.specs.declared.widest.Widest.{Wides
 use Rattle.enumerate_block.specs.semi_stable.specs.Widest.{HasRange, IsRangeIn, IsWidestFrom}
 use Rattle.enumerate_block.specs.semi_stable.proofs.WidestLemmas.{range_list, range_within}
 use Rattle.enumerate_block.specs.Ranges.{AreRefuted}
-use Rattle.enumerate_block.proofs.RangeLemmas.{grown_widest, log_kept, not_in_range, open_ranges, widest_kept}
+use Rattle.enumerate_block.proofs.FoundRanges.{log_kept, not_in_range, open_ranges}
+use Rattle.enumerate_block.proofs.NewRanges.{grown_widest}
+use Rattle.enumerate_block.proofs.RangeTurns.{widest_kept}
 use Rattle.enumerate_block.proofs.StepLemmas.{refuted_first, refuted_last, refuted_member, refuted_none}
 use Rattle.enumerate_block.proofs.WidthLemmas.{same_clause_range, same_width, widest_too}
 use Rattle.enumerate_block.specs.declared.deciding.RangeCover.{RangeCover}
-use Rattle.enumerate_block.specs.Witnesses.{Extends, IsCover, IsExtended, IsMadeWithin, IsNoWitness}
+use Rattle.enumerate_block.specs.Witnesses.{AreWanted, Extends, IsCover, IsExtended, IsMadeWithin, IsNoWitness}
 use Rattle.enumerate_block.specs.Witnesses.{IsUncovered, IsWitness, MakesIt, Takes, ins_of, literal_of, outs_of}
 
 -- Covers of ranges by sets of which none has a set in its range that makes the literal true.
@@ -96,15 +97,6 @@ set_more old new e is s = (
 module _ (mode : Mode) where
   -- ---- the literal
 
-  -- the members that make it true, and the goals that it stands among
-  pub record AreFor (q : ℕ) (accepted : Bool) (ranged asks : List ℕ) (atom : Atom) (ins outs these numbers : List ℕ)
-      : Type 0 where
-    pub atom_is : atom ≡ mode_atom mode
-    pub ins_are : ins ≡ ins_of accepted (q ∷ [])
-    pub outs_are : outs ≡ outs_of accepted (q ∷ [])
-    pub ranged_are : these ≡ ranged
-    pub asks_are : numbers ≡ asks
-
   askable : (f : Framework) (sides : List SideClause) (q : ℕ) (accepted : Bool) (ranged asks : List ℕ)
       → Contains (members f) q → IsWithin ranged (members f)
       → ((n : ℕ) → Contains asks n → IsNumberOf sides n × SpeaksOf f (side_at sides n).literals)
@@ -126,13 +118,14 @@ module _ (mode : Mode) where
     asked = asked;
   }
 
-  askable_as : (f : Framework) (sides : List SideClause) (q : ℕ) (accepted : Bool) (ranged asks : List ℕ) (atom : Atom)
-      (ins outs these numbers : List ℕ) → AreFor q accepted ranged asks atom ins outs these numbers
+  pub askable_as : (f : Framework) (sides : List SideClause) (q : ℕ) (accepted : Bool) (ranged asks : List ℕ)
+      (atom : Atom) (ins outs these numbers : List ℕ) → atom ≡ mode_atom mode
+      → AreWanted accepted (q ∷ []) ranged asks ins outs these numbers
       → IsAskable f sides (mode_atom mode) (ins_of accepted (q ∷ [])) (outs_of accepted (q ∷ [])) ranged asks
       → IsAskable f sides atom ins outs these numbers
-  askable_as f sides q accepted ranged asks atom ins outs these numbers are h =
+  askable_as f sides q accepted ranged asks atom ins outs these numbers atom_is are h =
       let own = mode_atom mode in
-      subst (λ (a : Atom). IsAskable f sides a ins outs these numbers) (sym are.atom_is)
+      subst (λ (a : Atom). IsAskable f sides a ins outs these numbers) (sym atom_is)
       (subst (λ (xs : List ℕ). IsAskable f sides own xs outs these numbers) (sym are.ins_are)
       (subst (λ (xs : List ℕ). IsAskable f sides own (ins_of accepted (q ∷ [])) xs these numbers) (sym are.outs_are)
       (subst (λ (xs : List ℕ). IsAskable f sides own (ins_of accepted (q ∷ [])) (outs_of accepted (q ∷ [])) xs numbers)
@@ -140,13 +133,13 @@ module _ (mode : Mode) where
       (subst (λ (xs : List ℕ). IsAskable f sides own (ins_of accepted (q ∷ [])) (outs_of accepted (q ∷ [])) ranged xs)
       (sym are.asks_are) h))))
 
-  goals_as : (q : ℕ) (accepted : Bool) (ranged asks : List ℕ) (atom : Atom) (ins outs these numbers : List ℕ)
-      → AreFor q accepted ranged asks atom ins outs these numbers
+  pub goals_as : (q : ℕ) (accepted : Bool) (ranged asks : List ℕ) (atom : Atom) (ins outs these numbers : List ℕ)
+      → atom ≡ mode_atom mode → AreWanted accepted (q ∷ []) ranged asks ins outs these numbers
       → goals_of atom ins outs these numbers
       ≡ goals_of (mode_atom mode) (ins_of accepted (q ∷ [])) (outs_of accepted (q ∷ [])) ranged asks
-  goals_as q accepted ranged asks atom ins outs these numbers are =
+  goals_as q accepted ranged asks atom ins outs these numbers atom_is are =
       let own = mode_atom mode in
-      ap (λ (a : Atom). goals_of a ins outs these numbers) are.atom_is
+      ap (λ (a : Atom). goals_of a ins outs these numbers) atom_is
       ∙ (ap (λ xs. goals_of own xs outs these numbers) are.ins_are
       ∙ (ap (λ xs. goals_of own (ins_of accepted (q ∷ [])) xs these numbers) are.outs_are
       ∙ (ap (λ xs. goals_of own (ins_of accepted (q ∷ [])) (outs_of accepted (q ∷ [])) xs numbers) are.ranged_are
@@ -243,11 +236,12 @@ module _ (mode : Mode) where
   -- ---- a set that is not covered
 
   pub may_ask_uncovered : (f : Framework) (log : OracleLog) (q : ℕ) (accepted : Bool) (cover : RangeCover)
-      (atom : Atom) (ins outs these numbers : List ℕ) → AreFor q accepted [] cover.asks atom ins outs these numbers
-      → Contains (members f) q → IsCover f log mode q accepted cover → IsAskable f log.sides atom ins outs these numbers
-  may_ask_uncovered f log q accepted cover atom ins outs these numbers are live h =
-      askable_as f log.sides q accepted [] cover.asks atom ins outs these numbers are
-      (askable f log.sides q accepted [] cover.asks live (λ a c. absurd (Contains-nil a c))
+      (asks : List ℕ) → asks ≡ cover.asks → Contains (members f) q → IsCover f log mode q accepted cover
+      → IsAskable f log.sides (mode_atom mode) (ins_of accepted (q ∷ [])) (outs_of accepted (q ∷ [])) [] asks
+  may_ask_uncovered f log q accepted cover asks is live h =
+      askable f log.sides q accepted [] asks live (λ a c. absurd (Contains-nil a c))
+      (subst (λ (xs : List ℕ). (n : ℕ) → Contains xs n → IsNumberOf log.sides n
+      × SpeaksOf f (side_at log.sides n).literals) (sym is)
       (asks_speak f (wider f) log.sides cover.sets cover.asks (λ e c. wider_speaks f e) h.asks))
 
   found_uncovered : (f : Framework) (log : OracleLog) (q : ℕ) (accepted : Bool) (cover : RangeCover)
@@ -270,27 +264,27 @@ module _ (mode : Mode) where
       (wanted f q accepted [] [] h.kind (λ a c. c)) h.asks refuted
 
   pub if_uncovered : (f : Framework) (P : Making) (old log : OracleLog) (q : ℕ) (accepted : Bool) (cover : RangeCover)
-      (atom : Atom) (ins outs these numbers : List ℕ) → AreFor q accepted [] cover.asks atom ins outs these numbers
-      → IsLog f old
-      → Grows P old log → IsCover f old mode q accepted cover → (r : Result Found Halt)
-      → IfOk r (IsFound f log (goals_of atom ins outs these numbers)) → IfOk r (IsUncovered f log mode q accepted cover)
-  if_uncovered f P old log q accepted cover atom ins outs these numbers are form grows h (Ok found) k =
+      (asks : List ℕ) → asks ≡ cover.asks → IsLog f old → Grows P old log → IsCover f old mode q accepted cover
+      → (r : Result Found Halt) → IfOk r (IsFound f log (goals_of (mode_atom mode) (ins_of accepted (q ∷ []))
+      (outs_of accepted (q ∷ [])) [] asks))
+      → IfOk r (IsUncovered f log mode q accepted cover)
+  if_uncovered f P old log q accepted cover asks is form grows h (Ok found) k =
+      let ins = ins_of accepted (q ∷ []) in
+      let outs = outs_of accepted (q ∷ []) in
       found_uncovered f log q accepted cover (cover_grown f P old log q accepted cover form grows h) found
-      (subst (λ (x : List AtomLit). IsFound f log x found)
-      (goals_as q accepted [] cover.asks atom ins outs these numbers are) k)
-  if_uncovered f P old log q accepted cover atom ins outs these numbers are form grows h (Err halt) k = k
+      (subst (λ (xs : List ℕ). IsFound f log (goals_of (mode_atom mode) ins outs [] xs) found) is k)
+  if_uncovered f P old log q accepted cover asks is form grows h (Err halt) k = k
 
   -- ---- a set with all of a range
 
   pub may_ask_within : (f : Framework) (log : OracleLog) (q : ℕ) (accepted : Bool) (widest : Widest)
-      (atom : Atom) (ins outs these numbers : List ℕ) → AreFor q accepted widest.range [] atom ins outs these numbers
-      → IsNumbered f
-      → Contains (members f) q → HasRange f mode widest → IsAskable f log.sides atom ins outs these numbers
-  may_ask_within f log q accepted widest atom ins outs these numbers are ok live h =
-      askable_as f log.sides q accepted widest.range [] atom ins outs these numbers are
-      (askable f log.sides q accepted widest.range [] live
-      (range_within f widest.set widest.range h.kind ok (mode_members mode f widest.set h.has_mode) h.range)
-      (λ n c. absurd (Contains-nil n c)))
+      (range : List ℕ) → range ≡ widest.range → IsNumbered f → Contains (members f) q → HasRange f mode widest
+      → IsAskable f log.sides (mode_atom mode) (ins_of accepted (q ∷ [])) (outs_of accepted (q ∷ [])) range []
+  may_ask_within f log q accepted widest range is ok live h =
+      askable f log.sides q accepted range [] live
+      (subst (λ (xs : List ℕ). IsWithin xs (members f)) (sym is)
+      (range_within f widest.set widest.range h.kind ok (mode_members mode f widest.set h.has_mode) h.range))
+      (λ n c. absurd (Contains-nil n c))
 
   all_ranged : (f : Framework) (log : OracleLog) (ins outs e r asks set : List ℕ) → is_assumption_based f ≡ false
       → IsSetOf (IsRanged f e) r → MakesTrue f log (goals_of (mode_atom mode) ins outs r asks) set → IsRangeIn f e set
@@ -320,15 +314,16 @@ module _ (mode : Mode) where
       (asks_none (wider f) log.sides [] [] refl refl) refuted
 
   pub if_within : (f : Framework) (log : OracleLog) (q : ℕ) (accepted : Bool) (widest : Widest)
-      (atom : Atom) (ins outs these numbers : List ℕ) → AreFor q accepted widest.range [] atom ins outs these numbers
-      → IsNumbered f
-      → HasRange f mode widest → (r : Result Found Halt) → IfOk r (IsFound f log (goals_of atom ins outs these numbers))
+      (range : List ℕ) → range ≡ widest.range → IsNumbered f → HasRange f mode widest → (r : Result Found Halt)
+      → IfOk r (IsFound f log (goals_of (mode_atom mode) (ins_of accepted (q ∷ [])) (outs_of accepted (q ∷ [])) range
+      []))
       → IfOk r (IsMadeWithin f log mode q accepted widest.set)
-  if_within f log q accepted widest atom ins outs these numbers are ok h (Ok found) k =
+  if_within f log q accepted widest range is ok h (Ok found) k =
+      let ins = ins_of accepted (q ∷ []) in
+      let outs = outs_of accepted (q ∷ []) in
       found_within f log q accepted widest ok h found
-      (subst (λ (x : List AtomLit). IsFound f log x found)
-      (goals_as q accepted widest.range [] atom ins outs these numbers are) k)
-  if_within f log q accepted widest atom ins outs these numbers are ok h (Err halt) k = k
+      (subst (λ (xs : List ℕ). IsFound f log (goals_of (mode_atom mode) ins outs xs []) found) is k)
+  if_within f log q accepted widest range is ok h (Err halt) k = k
 
   -- ---- a witness
 

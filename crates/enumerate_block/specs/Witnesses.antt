@@ -13,7 +13,7 @@ use Rattle.certificate_claims.specs.SetLiterals.{goal, wider}
 use Rattle.oracle_face.specs.declared.face.Found.{Found}
 use Rattle.oracle_face.specs.declared.face.Found.TheVariants.{Set, Refuted}
 use Rattle.oracle_face.specs.Goals.{Refutes}
-use Rattle.oracle_face.specs.Kinds.{IsRanged, is_assumption_based}
+use Rattle.oracle_face.specs.Kinds.{is_assumption_based}
 use Rattle.oracle_face.specs.Logs.{OracleLog}
 use Rattle.goal_lists.specs.Asking.{AreApart}
 use Rattle.goal_lists.specs.Sides.{AreAsksOf, IsAskOf}
@@ -43,6 +43,13 @@ ins_of false goals = []
 abbrev pub outs_of : Bool → List ℕ → List ℕ
 outs_of true goals = []
 outs_of false goals = goals
+
+-- the lists say that of a goal, and what else is wanted
+pub record AreWanted (accepted : Bool) (goal ranged asks ins outs these numbers : List ℕ) : Type 0 where
+  pub ins_are : ins ≡ ins_of accepted goal
+  pub outs_are : outs ≡ outs_of accepted goal
+  pub ranged_are : these ≡ ranged
+  pub asks_are : numbers ≡ asks
 
 -- ---- the evidence
 

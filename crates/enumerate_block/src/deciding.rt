@@ -1,11 +1,13 @@
 //! Whether some set of a mode with a widest range makes a literal about membership true.
 
-ghost use Rattle.std.specs.Prelude.{◌≡◌, ◌∷◌, false, Contains, IfOk, OnOk};
+ghost use Rattle.std.specs.Prelude.{◌≡◌, [], ◌∷◌, false, Contains, IfOk, OnOk};
+ghost use Rattle.certificate_claims.specs.Claims.{mode_atom};
 ghost use Rattle.certificate_claims.specs.SetLiterals.{members};
+ghost use Rattle.goal_lists.specs.Asking.{IsAskable, goals_of};
 ghost use Rattle.oracle_face.specs.Kinds.{is_assumption_based};
-ghost use Rattle.oracle_face.specs.Growing.{closes, halt_of};
+ghost use Rattle.oracle_face.specs.Growing.{IsFound, closes, halt_of};
 ghost use Rattle.enumerate_block.specs.semi_stable.specs.Widest.{HasRange, MadeWider};
-ghost use Rattle.enumerate_block.specs.Witnesses.{Extends, IsCover, IsDecided, IsMadeWithin};
+ghost use Rattle.enumerate_block.specs.Witnesses.{AreWanted, Extends, IsCover, IsDecided, IsMadeWithin};
 ghost use Rattle.enumerate_block.specs.Witnesses.{IsUncovered, Takes, ins_of, outs_of};
 ghost use Rattle.goal_lists.specs.Runs.{Ran, RanInAll};
 
@@ -97,10 +99,8 @@ fn goals_wanted<'a>(
     ranged: &'a [u32],
     asks: &'a [AskId],
 ) -> Wanted<'a>
-    ensures ins { result.ins.now ≡ ins_of accepted goal.now }
-    ensures outs { result.outs.now ≡ outs_of accepted goal.now }
-    ensures ranged { result.ranged.now ≡ ranged.now }
-    ensures asks { result.asks.now ≡ asks.now }
+    ensures { AreWanted accepted goal.now ranged.now asks.now result.ins.now result.outs.now result.ranged.now
+        result.asks.now }
 {
     if accepted {
         return Wanted {
@@ -116,6 +116,30 @@ fn goals_wanted<'a>(
         ranged,
         asks,
     }
+}
+
+/// A set of the mode that makes the literal true, has these in its range and makes the side clauses true; or the step
+/// that refutes that there is one.
+fn find_with<O: Oracle>(
+    alloc: Global,
+    oracle: &mut O,
+    budget: &mut Budget,
+    mode: Mode,
+    goal: u32,
+    accepted: bool,
+    ranged: &[u32],
+    asks: &[AskId],
+) -> Result<Found, Halt>
+    requires { IsAskable (O.framework oracle.old) (O.log oracle.old).sides (mode_atom mode)
+        (ins_of accepted (goal ∷ [])) (outs_of accepted (goal ∷ [])) ranged.now asks.now }
+    ensures found { IfOk result (IsFound (O.framework oracle.old) (O.log oracle.new) (goals_of (mode_atom mode)
+        (ins_of accepted (goal ∷ [])) (outs_of accepted (goal ∷ [])) ranged.now asks.now)) }
+    ensures ran { Ran O.Oracle (λ f. MadeWider f mode) (closes result) oracle.old oracle.new budget.old budget.new
+        (halt_of result) }
+{
+    let goals = [goal];
+    let wanted = goals_wanted(&goals, accepted, ranged, asks);
+    search_for(alloc, oracle, budget, mode_atom(mode), &wanted)
 }
 
 /// A set of the mode that makes the literal true and whose range lies in none of those of the cover, or the step that
@@ -137,9 +161,8 @@ fn find_uncovered<O: Oracle>(
         (halt_of result) }
 {
     let _members = oracle.members();
-    let goals = [goal];
-    let wanted = goals_wanted(&goals, accepted, &[], cover.asks.as_slice());
-    search_for(alloc, oracle, budget, mode_atom(mode), &wanted)
+    let asks = cover.asks.as_slice();
+    find_with(alloc, oracle, budget, mode, goal, accepted, &[], asks)
 }
 
 /// A set of the mode that makes the literal true and has all of a set's range, or the step that shows that there is
@@ -161,9 +184,8 @@ fn within_range<O: Oracle>(
         (halt_of result) }
 {
     let _members = oracle.members();
-    let goals = [goal];
-    let wanted = goals_wanted(&goals, accepted, widest.range.as_slice(), &[]);
-    search_for(alloc, oracle, budget, mode_atom(mode), &wanted)
+    let range = widest.range.as_slice();
+    find_with(alloc, oracle, budget, mode, goal, accepted, range, &[])
 }
 
 /// Grows the range of the set that was found. Gives a set of the mode with the grown range that makes the literal true,

@@ -23,8 +23,9 @@ use Rattle.oracle_face.specs.Logs.{SideClause}
 use Rattle.answer_claims.specs.edit_rules.specs.Fitting.{IsKnown}
 use Rattle.answer_claims.specs.edit_rules.specs.Kinds.{kind_of}
 use Rattle.goal_lists.specs.Asking.{query_atom}
-use Rattle.goal_lists.specs.Words.{literal_of, struck_word}
-use Rattle.goal_lists.specs.declared.literal_lists.Word.{Word}
+use Rattle.answer_claims.specs.Words.{literal_of}
+use Rattle.goal_lists.specs.Words.{struck_word}
+use Rattle.answer_claims.specs.declared.words.Word.{Word}
 
 -- the goal of a query is that of its kind
 pub goal_by_kind : (f : Framework) (q : ℕ) → goal f q ≡ affirmed (query_atom (is_assumption_based f) q)

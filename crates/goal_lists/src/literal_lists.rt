@@ -7,27 +7,14 @@ ghost use Rattle.oracle_face.specs.certificate_claims.specs.SetLiterals.{are_in,
 ghost use Rattle.oracle_face.specs.certificate_claims.specs.SetLiterals as set_literals;
 ghost use Rattle.oracle_face.specs.Kinds.{IsRanged, is_assumption_based};
 ghost use Rattle.lists.specs.Members.{IsSetOf};
-ghost use Rattle.goal_lists.specs.Words.{literal_of, struck_word};
+ghost use Rattle.answer_claims.specs.Words.{literal_of};
+ghost use Rattle.goal_lists.specs.Words.{struck_word};
 
+use answer_claims::{Word, literal, push_all};
 use lists::Memory;
-use meaning_atoms::{Atom, AtomLit, Closure};
+use meaning_atoms::{Atom, AtomLit};
 use set_lists::NumSet;
 use std::alloc::Global;
-
-/// What a literal says of a number.
-#[derive(Clone, Copy, PartialEq, Eq)]
-pub(crate) enum Word {
-    /// It is a member.
-    In,
-    /// It is not a member.
-    Out,
-    /// It is in the range.
-    Ranged,
-    /// A member attacks it.
-    Struck,
-    /// The members derive a contrary of it.
-    Countered,
-}
 
 /// The literal that says an atom.
 pub fn affirmed(atom: Atom) -> AtomLit
@@ -37,32 +24,6 @@ pub fn affirmed(atom: Atom) -> AtomLit
         atom,
         positive: true,
     }
-}
-
-/// The literal that says so of a number.
-fn literal(word: Word, number: u32) -> AtomLit
-    ensures { result ≡ literal_of word number }
-{
-    match word {
-        Word::In => affirmed(Atom::Member(number)),
-        Word::Out => AtomLit {
-            atom: Atom::Member(number),
-            positive: false,
-        },
-        Word::Ranged => affirmed(Atom::Range(number)),
-        Word::Struck => affirmed(Atom::Tail(number, 1)),
-        Word::Countered => affirmed(Atom::Hit(Closure::Own, number, 1)),
-    }
-}
-
-/// Adds the literals that say so of each number.
-fn push_all(clause: &mut Vec<AtomLit>, word: Word, numbers: &[u32]) -> Result<(), Memory>
-    ensures { OnOk result (clause.new.items ≡ clause.old.items ++ map (literal_of word) numbers.now) }
-{
-    for number in numbers {
-        clause.push(literal(word, *number))?;
-    }
-    Ok(())
 }
 
 /// Adds for each number that it is a member.
@@ -161,7 +122,7 @@ pub fn wider(alloc: Global, members: &NumSet, range: &NumSet) -> Result<Vec<Atom
 fn word_of_attack(is_aba: bool) -> Word
     ensures { result ≡ struck_word is_aba }
 {
-    if is_aba { Word::Countered } else { Word::Struck }
+    if is_aba { Word::Contrary } else { Word::Struck }
 }
 
 /// The side clause that a member of a set is attacked, by whether the framework is assumption-based.

@@ -1,12 +1,11 @@
 -- The state that all searches begin with.
-use Rattle.std.proofs.Common.{◌≡◌, ℕ, ◌+◌, ◌<◌, ◌≤◌, ◌^◌, Bool, true, false, cond, List, [], ◌∷◌, ◌++◌, length, get_or, map, take, replicate, arith, refl, sym, subst, ap, ◌∙◌, ⊎_elim, eqb}
+use Rattle.std.proofs.Common.{◌≡◌, ℕ, ◌+◌, ◌<◌, ◌≤◌, ◌^◌, Bool, true, false, List, [], ◌∷◌, ◌++◌, length, get_or, map, take, replicate, arith, sym, subst, ap, ◌∙◌, ⊎_elim, eqb}
 use Rattle.std.specs.Prelude.{◌↔◌, Contains, IsTrue, count_by}
 use Rattle.std.proofs.lemmas.Bool.{cases_Bool, cases_eq, false≢true}
 use Rattle.std.proofs.lemmas.List.{length-map, length-replicate, get_or-map, take_more, take_all}
 use Rattle.std.proofs.lemmas.List.Elements.{Contains-get_or, Contains-append_cases, Contains-append_left, Contains-append_right}
 use Rattle.lists.proofs.Images.{image_from, image_there}
 use Rattle.lists.proofs.Membership.{Contains-nil}
-use Rattle.dung_notions.specs.Search.{reaching}
 use Rattle.dung_notions.specs.attack_index.specs.Offsets.{AreBelow}
 use Rattle.dung_notions.specs.attack_index.specs.PairOrder.{PairsRise, reversed}
 use Rattle.semantics.specs.declared.numbers.TheConstants.{MAX_RULE}
@@ -14,12 +13,13 @@ use Rattle.semantics.specs.Rules.{Rule, Derives}
 use Rattle.semantics.specs.AbaFrameworks.{Aba, IsNumberedAba}
 use Rattle.aba_laws.proofs.DerivationLemmas.{derives_from}
 use Rattle.aba_notions.specs.Storage.{AreTabled, no_rule, rule_at}
-use Rattle.aba_notions.specs.Closing.{is_derived, IsMarked}
+use Rattle.aba_notions.specs.Closing.{IsMarked}
 use Rattle.aba_notions.proofs.ClosingLemmas.{begins, none_marked, counts_uses}
 use Rattle.aba_notions.proofs.TableLemmas.{rising_few}
 use Rattle.marked_rules.specs.declared.closing.Closing.{Closing}
 use Rattle.marked_rules.specs.declared.rule_uses.RuleUses.{RuleUses}
-use Rattle.marked_rules.specs.Search.{AreOf, HasFew, IsState, IsUsesOf, IsBegun, IsSearch, IsAtStart, GoesOnTo, Nothing, heads_of, derived_in, open_in}
+use Rattle.marked_rules.specs.Search.{IsState, IsUsesOf, IsBegun, IsSearch, IsAtStart, GoesOnTo, Nothing, heads_of, derived_in, open_in}
+use Rattle.marked_rules.proofs.OverlaidLemmas.{length_overlaid}
 use Rattle.marked_rules.proofs.SearchLemmas.{gives_more, begins_at, starts_afresh}
 
 -- ---- bounds
@@ -183,6 +183,10 @@ written_more d all n old new x lt before at made =
 
 pub written_all : {A : Type 0} (all : List A) (n : ℕ) (made : List A) → length all ≤ n → made ≡ take n all → made ≡ all
 written_all all n made end is = is ∙ take_all n all end
+
+-- it has each atom of the table
+pub derived_long : (u : RuleUses) (c : Closing) → length (derived_in u c) ≡ length u.start.base.items
+derived_long u c = length_overlaid true u.start.base.items c.derived (λ j. true)
 
 -- what a test of an atom says of the list
 pub tells_derived : (derived : List Bool) (x : ℕ) (r : Bool) → x < length derived

@@ -1,10 +1,10 @@
-use Rattle.std.proofs.Common.{subst, sym}
+use Rattle.std.proofs.Common.{inl, inr, subst, sym}
 use Rattle.std.specs.Prelude.{OnOk}
 use Rattle.aba_encoding.specs.Brought.{AreAtoms, GainsBrought, by_assumption, by_last_rule, by_rule_gone}
 use Rattle.aba_encoding.specs.Brought.{by_contrary_added, by_contrary_gone, by_contrary_set}
 use Rattle.aba_encoding.proofs.GainedLemmas.{none_called, on_called, wrong_kind}
 use Rattle.aba_encoding.proofs.OutcomeLemmas.{assumption_called, drop_called, gone_number, loss_called}
-use Rattle.aba_encoding.proofs.OutcomeLemmas.{added_called, added_pair, dropped_called, dropped_pair}
+use Rattle.aba_encoding.proofs.OutcomeLemmas.{added_called, dropped_called, edited_pair}
 use Rattle.aba_encoding.proofs.OutcomeLemmas.{set_called, set_gone, set_under}
 use Rattle.aba_encoding.proofs.OutcomeLemmas.{rule_called, some_rule, taken_as}
 use Rattle.aba_encoding.proofs.changing.push_changed.Goals as goal
@@ -15,54 +15,35 @@ push_last_rule-requires c =
     some_rule edited.before c.args.plain.now c.in-RuleAdd.head c.in-RuleAdd.field-1 c.args.effect.now
     (taken_as edited.before c.args.plain.now c.args.effect.now _ edited.of c.in-RuleAdd.is)
 
-pub push_past-requires-clause-low : goal.push_past-requires-clause-low
-push_past-requires-clause-low c =
+pub push_past-requires : goal.push_past-requires
+push_past-requires c =
     let edited = c.requires in
-    (gone_number edited.before c.args.plain.now c.in-RuleDrop.number c.args.effect.now edited.form
-    (taken_as edited.before c.args.plain.now c.args.effect.now _ edited.of c.in-RuleDrop.is)).0
+    let range = gone_number edited.before c.args.plain.now c.in-RuleDrop.number c.args.effect.now edited.form
+    (taken_as edited.before c.args.plain.now c.args.effect.now _ edited.of c.in-RuleDrop.is) in
+    record { low = range.0; high = range.1 }
 
-pub push_past-requires-clause-high : goal.push_past-requires-clause-high
-push_past-requires-clause-high c =
-    let edited = c.requires in
-    (gone_number edited.before c.args.plain.now c.in-RuleDrop.number c.args.effect.now edited.form
-    (taken_as edited.before c.args.plain.now c.args.effect.now _ edited.of c.in-RuleDrop.is)).1
+pub push_set-requires : goal.push_set-requires
+push_set-requires c =
+    let f = c.requires.before in
+    let g = c.args.plain.now in
+    let a = c.in-ConSet.assumption in
+    let b = c.in-ConSet.contrary in
+    let effect = c.args.effect.now in
+    let taken = taken_as f g effect _ c.requires.of c.in-ConSet.is in
+    record {
+      atoms = subst AreAtoms (sym c.as_slice.ensures) (set_gone f g a b effect c.requires.form taken);
+      high = set_under f g a b effect c.requires.form taken;
+    }
 
-pub push_set-requires-clause-atoms : goal.push_set-requires-clause-atoms
-push_set-requires-clause-atoms c =
-    let edited = c.requires in
-    subst AreAtoms (sym c.as_slice.ensures)
-    (set_gone edited.before c.args.plain.now c.in-ConSet.assumption c.in-ConSet.contrary c.args.effect.now edited.form
-    (taken_as edited.before c.args.plain.now c.args.effect.now _ edited.of c.in-ConSet.is))
+pub push_added-requires : goal.push_added-requires
+push_added-requires c =
+    let pair = edited_pair c.args.plain.now c.args.effect.now _ _ c.requires (inl c.in-ConAdd.is) in
+    record { low = pair.low; high = pair.under }
 
-pub push_set-requires-clause-high : goal.push_set-requires-clause-high
-push_set-requires-clause-high c =
-    let edited = c.requires in
-    set_under edited.before c.args.plain.now c.in-ConSet.assumption c.in-ConSet.contrary c.args.effect.now edited.form
-    (taken_as edited.before c.args.plain.now c.args.effect.now _ edited.of c.in-ConSet.is)
-
-pub push_added-requires-clause-low : goal.push_added-requires-clause-low
-push_added-requires-clause-low c =
-    let edited = c.requires in
-    (added_pair edited.before c.args.plain.now c.in-ConAdd.assumption c.in-ConAdd.contrary c.args.effect.now
-    edited.form (taken_as edited.before c.args.plain.now c.args.effect.now _ edited.of c.in-ConAdd.is)).low
-
-pub push_added-requires-clause-high : goal.push_added-requires-clause-high
-push_added-requires-clause-high c =
-    let edited = c.requires in
-    (added_pair edited.before c.args.plain.now c.in-ConAdd.assumption c.in-ConAdd.contrary c.args.effect.now
-    edited.form (taken_as edited.before c.args.plain.now c.args.effect.now _ edited.of c.in-ConAdd.is)).under
-
-pub push_gone-requires-clause-low : goal.push_gone-requires-clause-low
-push_gone-requires-clause-low c =
-    let edited = c.requires in
-    (dropped_pair edited.before c.args.plain.now c.in-ConDrop.assumption c.in-ConDrop.contrary c.args.effect.now
-    edited.form (taken_as edited.before c.args.plain.now c.args.effect.now _ edited.of c.in-ConDrop.is)).low
-
-pub push_gone-requires-clause-high : goal.push_gone-requires-clause-high
-push_gone-requires-clause-high c =
-    let edited = c.requires in
-    (dropped_pair edited.before c.args.plain.now c.in-ConDrop.assumption c.in-ConDrop.contrary c.args.effect.now
-    edited.form (taken_as edited.before c.args.plain.now c.args.effect.now _ edited.of c.in-ConDrop.is)).under
+pub push_gone-requires : goal.push_gone-requires
+push_gone-requires c =
+    let pair = edited_pair c.args.plain.now c.args.effect.now _ _ c.requires (inr c.in-ConDrop.is) in
+    record { low = pair.low; high = pair.under }
 
 pub returns-in-AsmAdd : goal.returns-in-AsmAdd
 returns-in-AsmAdd c =

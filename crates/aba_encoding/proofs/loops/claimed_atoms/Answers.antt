@@ -1,7 +1,7 @@
 use Rattle.std.proofs.lemmas.Result.{IfOk-weaker}
 use Rattle.af_encoding.specs.Decoded.{Affirms}
 use Rattle.meaning_atoms.specs.declared.atom.Atom.TheVariants.{Der}
-use Rattle.aba_encoding.specs.NumberAtoms.{atom_of}
+use Rattle.af_encoding.specs.NumberAtoms.{atom_of}
 use Rattle.aba_encoding.proofs.LoopLemmas.{atoms_all, atoms_more, atoms_none, same_atom}
 use Rattle.aba_encoding.proofs.loops.claimed_atoms.Goals as goal
 

@@ -1,4 +1,4 @@
-use Rattle.std.proofs.Common.{ℕ, List}
+use Rattle.std.proofs.Common.{ℕ, List, rules}
 use Rattle.std.specs.Prelude.{Contains}
 use Rattle.lists.specs.Members.{IsSetOf}
 use Rattle.semantics.specs.Frameworks.{aba}
@@ -27,30 +27,24 @@ use Rattle.aba_encoding.proofs.LoopLemmas.{
 use Rattle.aba_encoding.proofs.ModelReadings.{model_reads_back}
 use Rattle.aba_encoding.proofs.loops.missing.Goals as goal
 
-pub returns-in-Some-clause-loops : goal.returns-in-Some-clause-loops
-returns-in-Some-clause-loops c =
+pub returns-in-Some : goal.returns-in-Some
+returns-in-Some c =
     let f = c.args.plain.now in
     let values = c.args.values.now in
-    loop_is f values c.in_ok-own.own Own c.in-Some.name c.loop_beside.ensures.form
-    (found_there (IsLoopBeside f values c.in_ok-own.own Own) c.in_ok-name.field-0 c.in-Some.name c.in-Some.is
-    c.in_ok-name.ensures.some)
-
-pub returns-in-Some-clause-lacks : goal.returns-in-Some-clause-lacks
-returns-in-Some-clause-lacks c =
-    let f = c.args.plain.now in
-    let values = c.args.values.now in
-    λ model tells. own_loop_new f values c.in_ok-own.own c.loop_beside.ensures.form c.in_ok-own.ensures model tells
-    c.in-Some.name
-    (found_there (IsLoopBeside f values c.in_ok-own.own Own) c.in_ok-name.field-0 c.in-Some.name c.in-Some.is
-    c.in_ok-name.ensures.some)
-
-pub returns-in-Some-clause-first : goal.returns-in-Some-clause-first
-returns-in-Some-clause-first c =
-    let f = c.args.plain.now in
-    let values = c.args.values.now in
-    λ set is. own_first f values c.in_ok-own.own set c.in-Some.name c.in_ok-own.ensures is
-    (found_there (IsLoopBeside f values c.in_ok-own.own Own) c.in_ok-name.field-0 c.in-Some.name c.in-Some.is
-    c.in_ok-name.ensures.some)
+    let own = c.in_ok-own.own in
+    let name = c.in-Some.name in
+    let form = c.loop_beside.ensures.form in
+    let derives = c.in_ok-own.ensures in
+    let is = found_there (IsLoopBeside f values own Own) c.in_ok-name.field-0 name c.in-Some.is
+    c.in_ok-name.ensures.some in
+    record {
+      loops = loop_is f values own Own name form is;
+      lacks = λ model tells. own_loop_new f values own form derives model tells name is;
+      first = λ set members. own_first f values own set name derives members is;
+      unfounded = λ set members. own_unfounded f values own set name derives members is;
+      founded = search rules;
+      reads = search rules;
+    }
 
 pub returns-clause-first : goal.returns-clause-first
 returns-clause-first c =
@@ -64,14 +58,6 @@ returns-clause-first c =
     (none_else ((x : ℕ) → IsAtom f.atoms x → Affirms values (Der Own x) → Derives f.rules (Contains own) x)
     c.in_ok-name.field-0 c.in_default.not-Some c.in_ok-name.ensures.none) h)
     c.in_ok-found.ensures.some
-
-pub returns-in-Some-clause-unfounded : goal.returns-in-Some-clause-unfounded
-returns-in-Some-clause-unfounded c =
-    let f = c.args.plain.now in
-    let values = c.args.values.now in
-    λ set is. own_unfounded f values c.in_ok-own.own set c.in-Some.name c.in_ok-own.ensures is
-    (found_there (IsLoopBeside f values c.in_ok-own.own Own) c.in_ok-name.field-0 c.in-Some.name c.in-Some.is
-    c.in_ok-name.ensures.some)
 
 pub returns-clause-unfounded : goal.returns-clause-unfounded
 returns-clause-unfounded c =

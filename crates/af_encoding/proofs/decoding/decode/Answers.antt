@@ -1,12 +1,13 @@
 use Rattle.std.proofs.lemmas.Result.{IfOk-weaker}
-use Rattle.af_encoding.proofs.Affirmed.{without_dead}
+use Rattle.meaning_atoms.specs.declared.atom.Atom.TheVariants.{Live}
+use Rattle.af_encoding.proofs.Affirmed.{without_others}
 use Rattle.af_encoding.proofs.Readings.{model_describes}
 use Rattle.af_encoding.proofs.decoding.decode.Goals as goal
 
 pub returns-clause-set : goal.returns-clause-set
 returns-clause-set c =
     IfOk-weaker c.minus-2.result _ _
-    (λ set made. without_dead c.args.values.now c.in_ok-members.members c.in_ok-live.live c.in_ok-dead.dead set
+    (λ set made. without_others Live c.args.values.now c.in_ok-members.members c.in_ok-live.live c.in_ok-dead.dead set
     c.in_ok-members.ensures c.in_ok-live.ensures c.in_ok-dead.ensures made)
     c.minus-2.ensures
 

@@ -1,6 +1,6 @@
 use Rattle.std.proofs.Common.{ap, arith, length, subst, sym, ◌*◌, ◌+◌, ◌∙◌}
 use Rattle.enumerate_block.specs.semi_stable.specs.Widest.{MadeWider}
-use Rattle.enumerate_block.proofs.RangeLemmas.{log_kept, two_more}
+use Rattle.enumerate_block.proofs.FoundRanges.{log_kept, two_more}
 use Rattle.enumerate_block.proofs.WitnessLemmas.{cover_extended, cover_grown, extended_of, few_closings}
 use Rattle.enumerate_block.proofs.WitnessLemmas.{fewer_open, no_witness, witness_of, cover_empty}
 use Rattle.std.specs.Prelude.{Contains}
@@ -132,24 +132,14 @@ returns-in_err-step-clause-ran g c =
     let inv = c.loop-cover.invariant in
     let ran = c.in_err-step.ensures.ran in
     then_handed {n = 0} g.met.O.Oracle.joins _ c.from_residual.ensures
-    (omega (
-      arith,
-      few_closings c.args.mode _ _ _ _ c.args.goal c.args.accepted c.loop-cover.cover inv.cover
-          ran.run.grows,
-    )) inv.ran
-    ran
+    (omega (arith, few_closings _ _ _ _ _ _ _ _ inv.cover ran.run.grows)) inv.ran ran
 
 pub returns-in-Refuted-clause-ran : goal.returns-in-Refuted-clause-ran
 returns-in-Refuted-clause-ran g c =
     let inv = c.loop-cover.invariant in
     let ran = c.in_ok-step.ensures.ran in
     then_none g.met.O.Oracle.joins c.in-Refuted.is
-    (omega (
-      arith,
-      few_closings c.args.mode _ _ _ _ c.args.goal c.args.accepted c.loop-cover.cover inv.cover
-          ran.run.grows,
-    )) inv.ran
-    ran
+    (omega (arith, few_closings _ _ _ _ _ _ _ _ inv.cover ran.run.grows)) inv.ran ran
 
 pub returns-in_err-witness-in-Set-clause-ran : goal.returns-in_err-witness-in-Set-clause-ran
 returns-in_err-witness-in-Set-clause-ran g c =
@@ -178,9 +168,4 @@ returns-in_err-steps-in-Refuted-clause-ran g c =
     let most = 2 * length (g.O.Oracle.log c.find_uncovered.new.oracle).sides + 2 in
     ran_lost {m = most} _ c.from_residual-in_err-steps-in-Refuted.ensures (omega arith)
     (then_none g.met.O.Oracle.joins c.in-Refuted.is
-    (omega (
-      arith,
-      few_closings c.args.mode _ _ _ _ c.args.goal c.args.accepted c.loop-cover.cover inv.cover
-          ran.run.grows,
-    )) inv.ran
-    ran)
+    (omega (arith, few_closings _ _ _ _ _ _ _ _ inv.cover ran.run.grows)) inv.ran ran)

@@ -1,7 +1,7 @@
 use Rattle.std.proofs.Common.{◌*◌, length}
 use Rattle.std.specs.Prelude.{None}
 use Rattle.enumerate_block.specs.semi_stable.specs.Widest.{MadeWider}
-use Rattle.enumerate_block.proofs.RangeLemmas.{open_ranges}
+use Rattle.enumerate_block.proofs.FoundRanges.{open_ranges}
 use Rattle.enumerate_block.specs.Witnesses.{IsCover}
 use Rattle.goal_lists.specs.Runs.{Ran}
 use Rattle.enumerate_block.proofs.deciding.decide.Given as goal

@@ -1,8 +1,11 @@
 use Rattle.std.proofs.Common.{ap, arith, length, rules, subst, sym, ◌*◌, ◌+◌, ◌∙◌, ◌∷◌}
 use Rattle.enumerate_block.specs.Marks.{marked_steps}
 use Rattle.enumerate_block.specs.Ranges.{MadeForRanges, AreFound, IsUncovered}
-use Rattle.enumerate_block.proofs.RangeLemmas.{all_refuted, few_closings, fewer_open, found_grown, found_kept}
-use Rattle.enumerate_block.proofs.RangeLemmas.{log_kept, not_recorded, recorded, two_more}
+use Rattle.enumerate_block.proofs.FoundRanges.{few_closings, found_grown, found_kept}
+use Rattle.enumerate_block.proofs.NewRanges.{fewer_open}
+use Rattle.enumerate_block.proofs.RangeTurns.{all_refuted}
+use Rattle.enumerate_block.proofs.FoundRanges.{log_kept, two_more}
+use Rattle.enumerate_block.proofs.RangeTurns.{not_recorded, recorded}
 use Rattle.std.proofs.lemmas.Result.{IfOk-from_err}
 use Rattle.semantics.specs.Frameworks.{Framework}
 use Rattle.oracle_face.specs.declared.face.Found.{Found}

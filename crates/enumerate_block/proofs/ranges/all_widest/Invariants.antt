@@ -1,7 +1,7 @@
 use Rattle.std.proofs.Common.{◌*◌, ◌≤◌, length}
 use Rattle.std.specs.Prelude.{None}
 use Rattle.enumerate_block.specs.Ranges.{AreFound, MadeForRanges}
-use Rattle.enumerate_block.proofs.RangeLemmas.{open_ranges}
+use Rattle.enumerate_block.proofs.FoundRanges.{open_ranges}
 use Rattle.goal_lists.specs.Runs.{Ran}
 use Rattle.enumerate_block.proofs.ranges.all_widest.Given as goal
 

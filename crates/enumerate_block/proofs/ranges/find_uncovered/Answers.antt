@@ -1,4 +1,4 @@
-use Rattle.enumerate_block.proofs.RangeLemmas.{if_uncovered, may_ask_uncovered}
+use Rattle.enumerate_block.proofs.FoundRanges.{if_uncovered, may_ask_uncovered}
 use Rattle.goal_lists.proofs.RunLemmas.{ran_search}
 use Rattle.enumerate_block.proofs.ranges.find_uncovered.Goals as goal
 

@@ -1,5 +1,5 @@
 use Rattle.std.proofs.Common.{arith, refl, subst, sym}
-use Rattle.enumerate_block.proofs.RangeLemmas.{as_widest, widest_kept}
+use Rattle.enumerate_block.proofs.RangeTurns.{as_widest, widest_kept}
 use Rattle.goal_lists.proofs.RunLemmas.{ran_handed, ran_lost, ran_then}
 use Rattle.semantics.specs.Frameworks.{Framework}
 use Rattle.enumerate_block.specs.semi_stable.specs.Widest.{HasRange}

@@ -1,7 +1,7 @@
 use Rattle.std.proofs.Common.{◌-◌, ap, length, refl, arith}
 use Rattle.enumerate_block.specs.goal_lists.proofs.Calls.{makes_same}
 use Rattle.enumerate_block.proofs.KnownRanges.{range_known}
-use Rattle.enumerate_block.proofs.RangeLemmas.{apart_grown, as_listed, gains_grown, more_grown, range_fits}
+use Rattle.enumerate_block.proofs.RangeTurns.{apart_grown, as_listed, gains_grown, more_grown, range_fits}
 use Rattle.goal_lists.proofs.RunLemmas.{ran_as, ran_handed, ran_lost, ran_then, then_handed}
 use Rattle.enumerate_block.proofs.ranges.record_range.Goals as goal
 

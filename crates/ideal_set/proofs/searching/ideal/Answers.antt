@@ -59,25 +59,12 @@ returns-in-Unattacked-clause-ran g c =
     ))
     inv.ran ran
 
-pub cut_down-requires-clause-found : goal.cut_down-requires-clause-found
-cut_down-requires-clause-found g c =
-    (turn_of _ _ _ c.loop-start.found c.in_ok-free.field-0 (AttackedBy c.in-AttackedBy.free c.in-AttackedBy.other)
-    (sym c.in_ok-free.ensures.ran.framework) c.in-AttackedBy.is c.in_ok-free.ensures.turned).searched
-
-pub cut_down-requires-clause-set : goal.cut_down-requires-clause-set
-cut_down-requires-clause-set g c =
-    (turn_of _ _ _ c.loop-start.found c.in_ok-free.field-0 (AttackedBy c.in-AttackedBy.free c.in-AttackedBy.other)
-    (sym c.in_ok-free.ensures.ran.framework) c.in-AttackedBy.is c.in_ok-free.ensures.turned).largest.is_free
-
-pub cut_down-requires-clause-attacks : goal.cut_down-requires-clause-attacks
-cut_down-requires-clause-attacks g c =
-    (turn_of _ _ _ c.loop-start.found c.in_ok-free.field-0 (AttackedBy c.in-AttackedBy.free c.in-AttackedBy.other)
-    (sym c.in_ok-free.ensures.ran.framework) c.in-AttackedBy.is c.in_ok-free.ensures.turned).attacks
-
-pub cut_down-requires-clause-asked : goal.cut_down-requires-clause-asked
-cut_down-requires-clause-asked g c =
-    (turn_of _ _ _ c.loop-start.found c.in_ok-free.field-0 (AttackedBy c.in-AttackedBy.free c.in-AttackedBy.other)
-    (sym c.in_ok-free.ensures.ran.framework) c.in-AttackedBy.is c.in_ok-free.ensures.turned).asked
+pub cut_down-requires : goal.cut_down-requires
+cut_down-requires g c =
+    let turn = turn_of _ _ _ c.loop-start.found c.in_ok-free.field-0
+    (AttackedBy c.in-AttackedBy.free c.in-AttackedBy.other) (sym c.in_ok-free.ensures.ran.framework)
+    c.in-AttackedBy.is c.in_ok-free.ensures.turned in
+    record { found = turn.searched; set = turn.largest.is_free; attacks = turn.attacks; asked = turn.asked }
 
 pub returns-in_err-start-in-AttackedBy-clause-ideal : goal.returns-in_err-start-in-AttackedBy-clause-ideal
 returns-in_err-start-in-AttackedBy-clause-ideal g c = IfOk-from_err _ _ c.from_residual-in_err-start-in-AttackedBy.ensures.0

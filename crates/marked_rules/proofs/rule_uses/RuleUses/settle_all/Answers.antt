@@ -9,38 +9,28 @@ pub loop-rule-init : goal.loop-rule-init
 loop-rule-init c = goes_not c.args.plain.now c.args.self.now (length (heads_of c.args.plain.now)) c.args.closing.now
     c.requires
 
-pub lower-requires-clause-within : goal.lower-requires-clause-within
-lower-requires-clause-within c =
+pub lower-requires : goal.lower-requires
+lower-requires c =
     let n = counts_use _ _ _ _ c.loop-rule.closing c.pop.new.self.items (c.in-Some.field-0-0, c.in-Some.rule)
     c.loop-rule.invariant.search c.in-Some.ensures.items in
-    rw c.as_slice.ensures.value n.1
+    record {
+      within = rw c.as_slice.ensures.value n.1;
+      fits = rw c.as_slice.ensures.value c.loop-rule.invariant.search.fits.counts;
+      some = rw c.as_slice.ensures.value n.2;
+    }
 
-pub lower-requires-clause-fits : goal.lower-requires-clause-fits
-lower-requires-clause-fits c = rw c.as_slice.ensures.value c.loop-rule.invariant.search.fits.counts
-
-pub lower-requires-clause-some : goal.lower-requires-clause-some
-lower-requires-clause-some c =
+pub fire-requires : goal.fire-requires
+fire-requires c =
     let n = counts_use _ _ _ _ c.loop-rule.closing c.pop.new.self.items (c.in-Some.field-0-0, c.in-Some.rule)
     c.loop-rule.invariant.search c.in-Some.ensures.items in
-    rw c.as_slice.ensures.value n.2
-
-pub fire-requires-clause-within : goal.fire-requires-clause-within
-fire-requires-clause-within c =
-    let n = counts_use _ _ _ _ c.loop-rule.closing c.pop.new.self.items (c.in-Some.field-0-0, c.in-Some.rule)
-    c.loop-rule.invariant.search c.in-Some.ensures.items in
-    n.0
-
-pub fire-requires-clause-counted : goal.fire-requires-clause-counted
-fire-requires-clause-counted c =
-    let n = counts_use _ _ _ _ c.loop-rule.closing c.pop.new.self.items (c.in-Some.field-0-0, c.in-Some.rule)
-    c.loop-rule.invariant.search c.in-Some.ensures.items in
-    n.1
-
-pub fire-requires-clause-fits : goal.fire-requires-clause-fits
-fire-requires-clause-fits c = record {
-  wide = c.loop-rule.invariant.search.fits.wide;
-  counts = rw c.as_slice.ensures.value at c.lower.ensures.fits;
-}
+    record {
+      within = n.0;
+      counted = n.1;
+      fits = record {
+        wide = c.loop-rule.invariant.search.fits.wide;
+        counts = rw c.as_slice.ensures.value at c.lower.ensures.fits;
+      };
+    }
 
 pub loop-rule-smaller : goal.loop-rule-smaller
 loop-rule-smaller c =

@@ -3,19 +3,21 @@
 ghost use Rattle.std.specs.Prelude.{◌≡◌, IfOk};
 ghost use Rattle.lists.specs.Members.{IsSetOf};
 ghost use Rattle.af_encoding.specs.Decoded.{Affirms};
-ghost use Rattle.aba_encoding.specs.NumberAtoms.{atom_of, number_in};
+ghost use Rattle.af_encoding.specs.NumberAtoms.{atom_of, number_in};
 
 use lists::Memory;
-use meaning_atoms::Atom::{Asm, Der, Member};
+use meaning_atoms::Atom::{Asm, Der, Live, Member};
 use meaning_atoms::{AtomLit, Closure};
 use set_lists::NumSet;
 use std::alloc::Global;
 
 /// Which atom of a number is meant.
 #[derive(Clone, Copy)]
-pub(crate) enum NumberAtom {
-    /// `Member:x`: the assumption x is in the set.
+pub enum NumberAtom {
+    /// `Member:x`: the argument or assumption x is in the set.
     Membership,
+    /// `Live:x`: x is an argument of the framework.
+    Argument,
     /// `Asm:x`: x is an assumption of the framework.
     Assumption,
     /// `Der:1:x`: the set derives x.
@@ -24,8 +26,8 @@ pub(crate) enum NumberAtom {
     RestDerived,
 }
 
-/// The numbers of which the literals affirm the atom.
-pub(crate) fn affirmed_numbers(
+/// The numbers of which the literals affirm the atom. `Memory` says that an allocation was refused.
+pub fn affirmed_numbers(
     alloc: Global,
     values: &[AtomLit],
     which: NumberAtom,
@@ -48,6 +50,7 @@ fn affirmed_number(literal: &AtomLit, which: NumberAtom) -> Option<u32>
     }
     match (which, literal.atom) {
         (NumberAtom::Membership, Member(x))
+        | (NumberAtom::Argument, Live(x))
         | (NumberAtom::Assumption, Asm(x))
         | (NumberAtom::OwnDerived, Der(Closure::Own, x))
         | (NumberAtom::RestDerived, Der(Closure::Rest, x)) => Some(x),

@@ -4,10 +4,9 @@ use Rattle.std.proofs.lemmas.Iterator.{items_from_collect, YieldsList-from_slice
 use Rattle.std.proofs.lemmas.Iterator.Consumers.{YieldsList-from_filter_map}
 use Rattle.std.proofs.lemmas.Result.{IfOk-weaker}
 use Rattle.af_encoding.specs.Decoded.{Affirms}
-use Rattle.af_encoding.proofs.Affirmed.{set_with}
-use Rattle.aba_encoding.specs.NumberAtoms.{atom_of, number_in}
-use Rattle.aba_encoding.proofs.Affirmed.{affirmed_are}
-use Rattle.aba_encoding.proofs.affirming.affirmed_numbers.Goals as goal
+use Rattle.af_encoding.specs.NumberAtoms.{atom_of, number_in}
+use Rattle.af_encoding.proofs.Affirmed.{affirmed_are, set_with}
+use Rattle.af_encoding.proofs.affirming.affirmed_numbers.Goals as goal
 
 pub returns : goal.returns
 returns c =

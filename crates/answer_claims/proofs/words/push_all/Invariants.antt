@@ -1,6 +1,6 @@
 use Rattle.std.proofs.Common.{◌≡◌, ◌++◌, map, take}
-use Rattle.answer_claims.specs.SideClauses.{literal_of}
-use Rattle.answer_claims.proofs.sides.push_all.Given as goal
+use Rattle.answer_claims.specs.Words.{literal_of}
+use Rattle.answer_claims.proofs.words.push_all.Given as goal
 
 abbrev pub invariant-loop-number : goal.invariant-loop-number
 invariant-loop-number l =
