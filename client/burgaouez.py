@@ -348,14 +348,14 @@ class Framework:
 
     @property
     def tasks(self) -> tuple[str, ...]:
-        """The tasks that are answered for this kind: all, or all without SST, ID and STG.
+        """The tasks that are answered for this kind: all, or all without SST and STG.
 
         >>> len(Framework.of_attacks([]).tasks), len(Framework.of_rules([], {}, []).tasks)
-        (26, 15)
+        (26, 18)
         """
         if self.kind is Kind.ATTACKS:
             return TASKS
-        return tuple(task for task in TASKS if not task.endswith(("-SST", "-ID", "-STG")))
+        return tuple(task for task in TASKS if not task.endswith(("-SST", "-STG")))
 
     def sentence(self, number: int) -> str:
         """What a number says; the number itself where no sentence was given."""

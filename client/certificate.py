@@ -345,12 +345,17 @@ def _evidence_claims(view: View, semantics: str, chosen: Numbers) -> list[Claim]
 def _ideal_claims(view: View, sets: Sequence[Numbers]) -> list[Claim]:
     ideal, others = sets[0], sets[1:]
     shunned = sorted(set().union(*map(view.attacked, others)))
-    attacked = SideClause("unattacked", (1,), tuple(yes("Tail", e, 1) for e in ideal))
+    attacked = SideClause("unattacked", (1,), tuple(_is_attacked(view, e) for e in ideal))
     held = tuple(yes("Member", e) for e in ideal)
     return [
         Claim((yes("Ad"),), (attacked,), "unattacked"),
         Claim((yes("Ad"), *held, *(no("Member", u) for u in shunned)), (outside(view, ideal, 1),), "ideal"),
     ]
+
+
+def _is_attacked(view: View, number: int) -> Literal:
+    """The position attacks a member of a set."""
+    return yes("Hit", OWN, number, 1) if view.is_rules else yes("Tail", number, 1)
 
 
 def _all_claims(view: View, semantics: str, sets: Sequence[Numbers]) -> list[Claim]:

@@ -328,6 +328,8 @@ class Wording:
         fields = {"set": listed([set_name(n) for n in side.sets], "or")}
         if record.conclusion is None:
             return f"side {side.kind} clash" + ("" if side.literals else " all"), fields
+        if side.kind == "unattacked" and self.view.is_rules:
+            return "side unattacked derives", {**fields, **self.get("c", record.conclusion.atom[-1])}
         fields.update(x=name(record.conclusion.atom[1]), holds="assumes" if self.view.is_rules else "holds")
         fields["hold"] = fields["holds"][:-1]
         if side.kind == "is" and not record.conclusion.positive:

@@ -192,7 +192,7 @@ class _Reader:
         mine, clash = self._played(number)
         mine = self._reached(mine, clash)
         shown = self._shown(mine, clash)
-        reasons = {**outer, **mine}
+        reasons = dict(outer)
         items: list[Union[Record, Case]] = []
         used: set[Literal] = set(clash.premises)
         for literal, reason in [*mine.items(), (None, clash)]:
@@ -202,6 +202,8 @@ class _Reader:
                 return items + inner, used | more
             if literal is None or literal in shown:
                 items.append(self._item(literal, reason, reasons, shown))
+            if literal is not None:
+                reasons[literal] = reason
         return items, used
 
     def _item(self, literal, reason: _Reason, reasons, shown) -> Union[Record, Case]:

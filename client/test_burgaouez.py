@@ -539,7 +539,7 @@ class ScriptTest(unittest.TestCase):
             ("delcon 3 1", refused("UnknownAssumption", 3)),
             ("delcon 1 4", refused("NoSuchContrary")),
             ("norule 5", refused("NoSuchRule", 5)),
-            ("ask DC-ID 1", refused("TaskNotForKind")),
+            ("ask DC-SST 1", refused("TaskNotForKind")),
         ):
             self.assertEqual(Script.from_text("1 " + line).run(DRUG).replies[0].outcome, outcome, line)
 

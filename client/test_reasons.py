@@ -269,7 +269,7 @@ def faults(worlds, refutation, sets, record):
         clause = refutation.claim.sides[number - 1]
         named = [sets[n - 1] for n in clause.sets]
         mask &= ~worlds.excepted(clause.kind, named)
-        side = side_literals(plain, clause.kind, named[0])
+        side = in_words(plain, side_literals(plain, clause.kind, named[0]))
     if record.conclusion is not None:
         mask &= ~worlds.mask(record.conclusion)
     if mask:
@@ -297,7 +297,13 @@ def side_literals(plain, kind, one):
             return literals(*(f"-Member:{m}" for m in beyond), *(f"Member:{e}" for e in one))
         case "wider":
             return literals(*(f"-Range:{m}" for m in plain.members if m not in plain.spread(one)))
-    return literals(*(f"-Tail:{e}:1" for e in one))
+    return literals(*(f"-Hit:1:{e}:1" if plain.is_rules else f"-Tail:{e}:1" for e in one))
+
+
+def in_words(plain, lacking):
+    """The same, with attacks on an assumption said as what would be derived."""
+    hit = {literal for literal in lacking if literal.atom[0] == "Hit"}
+    return (lacking - hit) | literals(*(f"-Der:1:{c}" for literal in hit for c in plain.against(literal.atom[2])))
 
 
 def stands_so(plain, one):

@@ -178,6 +178,7 @@ SENTENCES = {
     "side is not": "in all else it agrees with {set}; so it doesn't {hold} {x}, unless it is {set}",
     "side wider": "it has no other verdict beyond those of {set}; so it has one on {x}, unless it has none beyond them",
     "side unattacked": "it attacks nothing else of {set}; so it attacks {x}, if it attacks {set} at all",
+    "side unattacked derives": "it {has_c}, if it attacks {set} at all: it has nothing else that speaks against {set}",
     "side within clash": "so it holds nothing outside of {set}, and lies within it",
     "side is clash": "so it is {set}",
     "side wider clash": "so its verdicts lie within those of {set}",
