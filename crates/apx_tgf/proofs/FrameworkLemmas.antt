@@ -12,8 +12,9 @@ use Rattle.num_text.specs.Cuts.{lines_of}
 use Rattle.semantics.specs.Framework.{Af}
 use Rattle.semantics.specs.declared.argument.TheConstants.{MAX_ARGUMENT}
 use Rattle.af_format.specs.AfText.{IsFrameworkOf}
+use Rattle.af_format.specs.declared.af_line.TheConstants.{MAX_ATTACK_LINES}
 use Rattle.apx_tgf.specs.declared.format.NameFormat.{NameFormat}
-use Rattle.apx_tgf.specs.Names.{has_name, with_name, IsNumberOf}
+use Rattle.apx_tgf.specs.Names.{AreDistinct, has_name, with_name, IsNumberOf}
 use Rattle.apx_tgf.specs.Told.{Told, ToldAttack, Statement, nothing_told, told_after, told_after_line, told_by}
 use Rattle.apx_tgf.specs.Told.Statement.{declares, tells}
 use Rattle.apx_tgf.specs.NamedText.{IsTold, IsNamedFramework, ReadsAs}
@@ -25,10 +26,6 @@ use Rattle.apx_tgf.specs.Reading.{TellsAll}
 use Rattle.apx_tgf.proofs.NumberLemmas.{all_known}
 
 -- ---- no name has two numbers
-
--- no name stands twice among the names
-pub record AreDistinct (names : List (List ℕ)) : Type 0 where
-  pub once : (i j : ℕ) (d e : List ℕ) → i < j → j < length names → get_or names i d ≡ get_or names j e → ⊥
 
 -- what stands in a list with one more item at the end
 pushed_cases : (xs : List (List ℕ)) (x d : List ℕ) (i : ℕ) → i < length (xs ++ x ∷ [])
@@ -88,6 +85,11 @@ says-distinct told (s ∷ says) h = says-distinct (told_after_line told s) says 
 pub names-distinct : (says : List (List Statement)) → AreDistinct (told_by says).names
 names-distinct says = says-distinct nothing_told says
     (record { once = λ i j d e less within same. absurd (omega arith) })
+
+-- the names of a framework that is read are distinct
+pub ReadsAs-distinct : (format : NameFormat) (bytes : List ℕ) (names : List (List ℕ)) (f : Af)
+    → ReadsAs format bytes names f → AreDistinct names
+ReadsAs-distinct format bytes names f r = subst AreDistinct (sym r.names_are) (names-distinct r.says)
 
 number_same : (names : List (List ℕ)) (name : List ℕ) (m n : ℕ) → AreDistinct names → IsNumberOf names name m
     → IsNumberOf names name n → m ≡ n
@@ -202,6 +204,11 @@ pub few_names : (format : NameFormat) (bytes : List ℕ) (names : List (List ℕ
     → TellsAll format (lines_of bytes) (told_of names attacks) → length names ≤ MAX_ARGUMENT
 few_names format bytes names attacks all =
     subst (λ t. length t.names ≤ MAX_ARGUMENT) (sym all.told_is) all.few.few_names
+
+pub few_told : (format : NameFormat) (bytes : List ℕ) (names : List (List ℕ)) (attacks : List ToldAttack)
+    → TellsAll format (lines_of bytes) (told_of names attacks) → length attacks ≤ MAX_ATTACK_LINES
+few_told format bytes names attacks all =
+    subst (λ t. length t.attacks ≤ MAX_ATTACK_LINES) (sym all.told_is) all.few.few_attacks
 
 -- the first attack with a name that isn't declared is the fault that is told
 pub unknown_told : (format : NameFormat) (bytes : List ℕ) (names : List (List ℕ)) (attacks : List ToldAttack)

@@ -6,6 +6,7 @@ pub mod LineLemmas
 pub mod NameLemmas
 pub mod NumberLemmas
 pub mod ReadingLemmas
+pub mod SizeLemmas
 pub mod TextLemmas
 pub mod TgfLemmas
 pub mod ToldLemmas

@@ -1,5 +1,6 @@
 -- Names, in order of first declaration, and their numbers.
-use Rattle.std.specs.Prelude.{◌≡◌, ℕ, ◌+◌, ◌<◌, ◌==◌, ◌||◌, Bool, true, if◌then◌else◌, List, [], ◌∷◌, ◌++◌, length, All, slice_get, Some, nat_eq}
+use Rattle.std.specs.Prelude.{◌≡◌, ℕ, ◌+◌, ◌<◌, ◌==◌, ◌||◌, Bool, true, if◌then◌else◌, List, [], ◌∷◌, ◌++◌, length, All, slice_get}
+use Rattle.std.specs.Prelude.{slice_index_or, Some, nat_eq}
 use Rattle.std.specs.Char.{is_ascii_alphanumeric}
 use Rattle.std.specs.List.{list_any}
 use Rattle.std.specs.Cmp.Lexicographic.{pointwise}
@@ -30,3 +31,8 @@ pub record IsNumberOf (names : List (List ℕ)) (name : List ℕ) (number : ℕ)
 -- each of them is a name
 abbrev pub AreNames : List (List ℕ) → Type 0
 AreNames names = All IsName names
+
+-- no name stands twice among the names, so that each has one number
+pub record AreDistinct (names : List (List ℕ)) : Type 0 where
+  pub once : (i j : ℕ) (d e : List ℕ) → i < j → j < length names
+      → slice_index_or names i d ≡ slice_index_or names j e → ⊥

@@ -28,5 +28,5 @@ mod write;
 pub use fault::{NameCause, NameFault, ReadFault};
 pub use format::NameFormat;
 pub use names::Names;
-pub use read::{NamedAf, read_apx, read_tgf};
+pub use read::{NamedAf, read_named};
 pub use write::write_named;

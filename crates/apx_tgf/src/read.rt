@@ -6,9 +6,9 @@ ghost use Rattle.num_text.specs.Cuts.{lines_of};
 ghost use Rattle.semantics.specs.Framework.{Af};
 ghost use Rattle.semantics.specs.declared.argument.TheConstants.{MAX_ARGUMENT};
 ghost use Rattle.dung_notions.specs.Solid.{IsSolid};
-ghost use Rattle.apx_tgf.specs.declared.format.NameFormat.TheVariants.{Apx, Tgf};
+ghost use Rattle.af_format.specs.declared.af_line.TheConstants.{MAX_ATTACK_LINES};
 ghost use Rattle.apx_tgf.specs.declared.fault.NameCause.{NameCause};
-ghost use Rattle.apx_tgf.specs.Names.{AreNames};
+ghost use Rattle.apx_tgf.specs.Names.{AreDistinct, AreNames};
 ghost use Rattle.apx_tgf.specs.NamedText.{ReadsAs};
 ghost use Rattle.apx_tgf.specs.Faults.{IsFirstFault, IfLine, IsLineFault};
 ghost use Rattle.apx_tgf.specs.Reading.{TellsAll};
@@ -33,42 +33,12 @@ pub struct NamedAf<'a> {
     pub framework: AfPlain,
 }
 
-/// The framework that an APX text describes, with the names of its arguments in order of first declaration.
+/// The framework that a text of this format describes, with the names of its arguments in order of first declaration.
 ///
 /// `Line` tells the first line at which a cause stands, and of the causes that stand there the first in the order of
 /// [`NameCause`](crate::NameCause); `UnknownName` is told only where no line has another fault. `Memory` says that an
 /// allocation was refused.
-pub fn read_apx<'a>(alloc: Global, bytes: &'a [u8]) -> Result<NamedAf<'a>, ReadFault>
-    requires { length bytes.now ≤ MAX_INPUT }
-    ensures ok { IfOk result (λ r. ReadsAs Apx bytes.now r.names r.framework) }
-    ensures no_other { IfOk result (λ r. (names : List (List ℕ)) (f : Af) → ReadsAs Apx bytes.now names f
-        → (names ≡ r.names) × (f ≡ r.framework)) }
-    ensures solid { IfOk result (λ r. IsSolid r.framework) }
-    ensures few { IfOk result (λ r. length r.names ≤ MAX_ARGUMENT) }
-    ensures names { IfOk result (λ r. AreNames r.names) }
-    ensures faultless { OnOk result ((line : ℕ) (cause : NameCause) → ¬ IsFirstFault Apx bytes.now line cause) }
-    ensures fault { IfErr result (λ e. IfLine e (λ fault. IsFirstFault Apx bytes.now fault.line fault.cause)) }
-{
-    read_named(alloc, NameFormat::Apx, bytes)
-}
-
-/// The framework that a TGF text describes, as [`read_apx`] gives it.
-pub fn read_tgf<'a>(alloc: Global, bytes: &'a [u8]) -> Result<NamedAf<'a>, ReadFault>
-    requires { length bytes.now ≤ MAX_INPUT }
-    ensures ok { IfOk result (λ r. ReadsAs Tgf bytes.now r.names r.framework) }
-    ensures no_other { IfOk result (λ r. (names : List (List ℕ)) (f : Af) → ReadsAs Tgf bytes.now names f
-        → (names ≡ r.names) × (f ≡ r.framework)) }
-    ensures solid { IfOk result (λ r. IsSolid r.framework) }
-    ensures few { IfOk result (λ r. length r.names ≤ MAX_ARGUMENT) }
-    ensures names { IfOk result (λ r. AreNames r.names) }
-    ensures faultless { OnOk result ((line : ℕ) (cause : NameCause) → ¬ IsFirstFault Tgf bytes.now line cause) }
-    ensures fault { IfErr result (λ e. IfLine e (λ fault. IsFirstFault Tgf bytes.now fault.line fault.cause)) }
-{
-    read_named(alloc, NameFormat::Tgf, bytes)
-}
-
-// The same for a text of either format.
-fn read_named<'a>(
+pub fn read_named<'a>(
     alloc: Global,
     format: NameFormat,
     bytes: &'a [u8],
@@ -79,7 +49,9 @@ fn read_named<'a>(
         → (names ≡ r.names) × (f ≡ r.framework)) }
     ensures solid { IfOk result (λ r. IsSolid r.framework) }
     ensures few { IfOk result (λ r. length r.names ≤ MAX_ARGUMENT) }
+    ensures few_attacks { IfOk result (λ r. length r.framework.attacks ≤ MAX_ATTACK_LINES) }
     ensures names { IfOk result (λ r. AreNames r.names) }
+    ensures one_to_one { IfOk result (λ r. AreDistinct r.names) }
     ensures faultless { OnOk result ((line : ℕ) (cause : NameCause) → ¬ IsFirstFault format bytes.now line cause) }
     ensures fault { IfErr result (λ e. IfLine e (λ fault. IsFirstFault format bytes.now fault.line fault.cause)) }
 {
