@@ -872,21 +872,20 @@ unknown_words words c some asks other is =
     }
 
 -- what the words behind the name of a command ask for is what all words do
-pub asked_named : {E : Type 0} (words rest : List Text) (word : Text) (n : Option CommandName) (r : Result Command E)
-    → words ≡ word ∷ rest → named word ≡ n → IfOk r (λ c. request_of c ≡ requested_by n words rest)
-    → IfOk r (λ c. request_of c ≡ requested words)
-asked_named words rest word n (Err e) are is asks = tt
-asked_named words rest word n (Ok c) are is asks =
+asked_so : (words rest : List Text) (word : Text) (n : Option CommandName) (request : Request) → words ≡ word ∷ rest
+    → named word ≡ n → request ≡ requested_by n words rest → request ≡ requested words
+asked_so words rest word n request are is asks =
     asks ∙ ap (λ ws. requested_by n ws rest) are ∙ ap (λ m. requested_by m (word ∷ rest) rest) (sym is)
     ∙ ap requested (sym are)
 
 -- words that name a command, and ask for nothing
 pub named_unknown : {E : Type 0} (words rest : List Text) (word : Text) (n : CommandName) (r : Result Command E)
-    → words ≡ word ∷ rest → named word ≡ Some n → IfOk r (λ c. request_of c ≡ requested words)
+    → words ≡ word ∷ rest → named word ≡ Some n → IfOk r (λ c. request_of c ≡ requested_by (Some n) words rest)
     → IfOk r (λ c. c ≡ Unknown → AreUnknown words)
 named_unknown words rest word n (Err e) are is asks = tt
 named_unknown words rest word n (Ok c) are is asks =
-    unknown_words words c (λ none. let e : word ∷ rest ≡ [] = sym are ∙ none in cc) asks
+    unknown_words words c (λ none. let e : word ∷ rest ≡ [] = sym are ∙ none in cc)
+    (asked_so words rest word (Some n) (request_of c) are is asks)
     (λ none. let e : Some n ≡ None = sym is ∙ ap command_named (sym are) ∙ none in absurd (cc))
 
 -- words that name none

@@ -102,6 +102,12 @@ pub record AsksUnknown (bytes : List ℕ) (naming : Naming) (name : Option (List
   pub name_is : name ≡ Some unknown
   pub none : ¬ Contains names unknown
 
+-- the framework with names that the file's bytes read as in the format
+pub record IsNamedOf (known : KnownFile) (format : NameFormat) (names : List (List ℕ)) (framework : Af) : Type 0 where
+  pub bytes : List ℕ
+  pub has : HasBytes known bytes
+  pub reads : ReadsAs format bytes names framework
+
 -- the same of the bytes of a file
 pub record AnswersNamedFile (known : KnownFile) (naming : Naming) (name : Option (List ℕ)) (session : KeptSession)
     (text : List ℕ) : Type 0 where

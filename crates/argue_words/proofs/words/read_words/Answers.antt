@@ -1,5 +1,36 @@
-use Rattle.std.proofs.Common.{map, rules, Some, None, ◌∙◌, sym}
+use Rattle.std.proofs.Common.{◌≡◌, ◌∷◌, ◌∙◌, ap, map, rules, sym, Some}
 use Rattle.std.specs.String.{string_bytes}
 use Rattle.argue_words.specs.declared.words.CommandName.TheVariants as command
-use Rattle.argue_words.proofs.RequestLaws.{asked_named, named_unknown, others_unknown}
+use Rattle.argue_words.specs.Words.{named}
+use Rattle.argue_words.proofs.RequestLaws.{named_unknown}
 use Rattle.argue_words.proofs.words.read_words.Goals as goal
+
+pub returns-in-Some-Check-clause-unknown : goal.returns-in-Some-Check-clause-unknown
+returns-in-Some-Check-clause-unknown c =
+    named_unknown (map string_bytes c.args.words.now) (map string_bytes c.in-Some.rest.now)
+    (string_bytes c.in-Some.first.now) command.Check c.read_check.result (search rules)
+    (ap named (sym c.as_str.ensures.value) ∙ sym c.named.ensures ∙ c.in-Some-Check.is) c.read_check.ensures.request
+
+pub returns-in-Some-Live-clause-unknown : goal.returns-in-Some-Live-clause-unknown
+returns-in-Some-Live-clause-unknown c =
+    named_unknown (map string_bytes c.args.words.now) (map string_bytes c.in-Some.rest.now)
+    (string_bytes c.in-Some.first.now) command.Live c.read_live.result (search rules)
+    (ap named (sym c.as_str.ensures.value) ∙ sym c.named.ensures ∙ c.in-Some-Live.is) c.read_live.ensures.request
+
+pub returns-in-Some-Bench-clause-unknown : goal.returns-in-Some-Bench-clause-unknown
+returns-in-Some-Bench-clause-unknown c =
+    named_unknown (map string_bytes c.args.words.now) (map string_bytes c.in-Some.rest.now)
+    (string_bytes c.in-Some.first.now) command.Bench c.read_bench.result (search rules)
+    (ap named (sym c.as_str.ensures.value) ∙ sym c.named.ensures ∙ c.in-Some-Bench.is) c.read_bench.ensures.request
+
+pub returns-in-Some-Names-clause-unknown : goal.returns-in-Some-Names-clause-unknown
+returns-in-Some-Names-clause-unknown c =
+    named_unknown (map string_bytes c.args.words.now) (map string_bytes c.in-Some.rest.now)
+    (string_bytes c.in-Some.first.now) command.Names c.read_names.result (search rules)
+    (ap named (sym c.as_str.ensures.value) ∙ sym c.named.ensures ∙ c.in-Some-Names.is) c.read_names.ensures.request
+
+pub returns-in-Some-Af-clause-unknown : goal.returns-in-Some-Af-clause-unknown
+returns-in-Some-Af-clause-unknown c =
+    named_unknown (map string_bytes c.args.words.now) (map string_bytes c.in-Some.rest.now)
+    (string_bytes c.in-Some.first.now) command.Af c.read_af.result (search rules)
+    (ap named (sym c.as_str.ensures.value) ∙ sym c.named.ensures ∙ c.in-Some-Af.is) c.read_af.ensures.request
