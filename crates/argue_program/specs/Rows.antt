@@ -8,7 +8,7 @@ use Rattle.bench_runs.specs.oracle_core.specs.declared.reply.Answered.{Answered}
 use Rattle.argue_outside.specs.declared.Role.{Role}
 use Rattle.argue_outside.specs.declared.Role.TheVariants.{Framework}
 use Rattle.argue_words.specs.Words.{AfTexts, CheckTexts, LiveTexts, NamesTexts, Request, SolveTexts, version, problems}
-use Rattle.argue_words.specs.Words.{solving, checking, living, benching, naming, numbering, unknown}
+use Rattle.argue_words.specs.Words.{solving, checking, living, benching, by_name, numbering, unknown}
 use Rattle.iccma_tasks.specs.Tasks.{Asked, tasks_line}
 use Rattle.argue_commands.specs.Checks.{ChecksFiles, check_inputs}
 use Rattle.argue_program.specs.LargeInputs.{large_by}
@@ -265,7 +265,7 @@ row_of holds (solving texts) = solve_row holds (solving_by texts) texts
 row_of holds (checking texts) = check_row holds (asked_by texts.task texts.number) texts
 row_of holds (living texts) = live_row holds (budget_of texts.budget) texts
 row_of holds (benching texts) = bench_row (large_by texts)
-row_of holds (naming texts) = names_row holds (naming_by texts) texts
+row_of holds (by_name texts) = names_row holds (naming_by texts) texts
 row_of holds (numbering texts) = af_row holds (format_named texts.kind) texts
 row_of holds unknown = unknown_row
 

@@ -2,7 +2,7 @@
 
 ghost use Rattle.std.specs.Prelude.{◌≡◌, IfOk};
 ghost use Rattle.std.specs.Option.{option_map};
-ghost use Rattle.argue_words.specs.Words.{names_texts, naming};
+ghost use Rattle.argue_words.specs.Words.{by_name, names_texts};
 ghost use Rattle.argue_commands.specs.Inputs.{reading};
 ghost use Rattle.argue_program.specs.Rows.{EndsSession, IsEndingFor};
 
@@ -33,7 +33,7 @@ fn named_ending(
 
 /// The ending of a query by names.
 pub(crate) fn names<F: Files>(alloc: Global, files: &mut F, words: NamesWords<'_>) -> Ending
-    ensures ending { IsEndingFor (reading F.Files files.old files.new) (naming (names_texts words.entry)) result }
+    ensures ending { IsEndingFor (reading F.Files files.old files.new) (by_name (names_texts words.entry)) result }
     ensures same { F.holds files.new ≡ F.holds files.old }
     ensures writes { F.write_count files.new ≡ F.write_count files.old }
 {

@@ -15,7 +15,7 @@ use Rattle.argue_words.specs.Words.{HasCheckTexts, HasLiveTexts, HasNamesTexts, 
     IsBenchQuery}
 use Rattle.argue_words.specs.Words.{IsCheckQuery, IsLiveQuery, IsNamesQuery, IsSolveQuery, LiveTexts, NamesTexts}
 use Rattle.argue_words.specs.Words.{RefusesOthers, Request, SolveTexts, version, problems, solving, checking, living}
-use Rattle.argue_words.specs.Words.{benching, naming, numbering, unknown, af_app, af_request, af_requested, af_value}
+use Rattle.argue_words.specs.Words.{benching, by_name, numbering, unknown, af_app, af_request, af_requested, af_value}
 use Rattle.argue_words.specs.Words.{bench_app, bench_request, bench_requested, bench_value, check_app, check_request}
 use Rattle.argue_words.specs.Words.{check_requested, check_value, command_named, live_app, live_request,
     live_requested}
@@ -84,7 +84,7 @@ request_name (solving texts) = Some None
 request_name (checking texts) = Some (Some command.Check)
 request_name (living texts) = Some (Some command.Live)
 request_name (benching texts) = Some (Some command.Bench)
-request_name (naming texts) = Some (Some command.Names)
+request_name (by_name texts) = Some (Some command.Names)
 request_name (numbering texts) = Some (Some command.Af)
 request_name unknown = None
 
@@ -106,7 +106,7 @@ of_none_named problems h = absurd h
 of_none_named (checking texts) h = absurd h
 of_none_named (living texts) h = absurd h
 of_none_named (benching texts) h = absurd h
-of_none_named (naming texts) h = absurd h
+of_none_named (by_name texts) h = absurd h
 of_none_named (numbering texts) h = absurd h
 
 solve_same : {s t : SolveTexts} → solving s ≡ solving t → s ≡ t
@@ -121,7 +121,7 @@ live_same e = cc
 bench_same : {s t : BenchTexts} → benching s ≡ benching t → s ≡ t
 bench_same e = cc
 
-names_same : {s t : NamesTexts} → naming s ≡ naming t → s ≡ t
+names_same : {s t : NamesTexts} → by_name s ≡ by_name t → s ≡ t
 names_same e = cc
 
 af_same : {s t : AfTexts} → numbering s ≡ numbering t → s ≡ t
@@ -370,12 +370,12 @@ requested_input words texts query =
 
 names_from : (task kind file name budget certificate : Option Text) (texts : NamesTexts) → task ≡ Some texts.task
     → kind ≡ Some texts.kind → file ≡ Some texts.file → name ≡ texts.name → budget ≡ texts.budget
-    → certificate ≡ texts.certificate → names_request task kind file name budget certificate ≡ naming texts
+    → certificate ≡ texts.certificate → names_request task kind file name budget certificate ≡ by_name texts
 names_from task kind file name budget certificate texts a b c d e f = rw (a, b, c, d, e, f) refl
 
 -- a query by names asks for its texts
 pub requested_names : (words : List Text) (texts : NamesTexts) → IsNamesQuery words texts
-    → requested words ≡ naming texts
+    → requested words ≡ by_name texts
 unfolding names_requested
 requested_names words texts query =
     requested_named words query.rest command.Names query.words_are ∙ ap (λ b. names_if b query.rest) query.has.taken
@@ -476,7 +476,7 @@ has_bench words texts true taken is = let found = bench_to _ _ texts is in recor
 has_bench words texts false taken is = cc
 
 names_to : (task kind file name budget certificate : Option Text) (texts : NamesTexts)
-    → names_request task kind file name budget certificate ≡ naming texts
+    → names_request task kind file name budget certificate ≡ by_name texts
     → (task ≡ Some texts.task) × (kind ≡ Some texts.kind) × (file ≡ Some texts.file) × (name ≡ texts.name) × (budget
     ≡ texts.budget) × (certificate ≡ texts.certificate)
 names_to None kind file name budget certificate texts is = cc
@@ -493,7 +493,7 @@ names_to (Some task) (Some kind) (Some file) name budget certificate texts is =
     )
 
 has_names : (words : List Text) (texts : NamesTexts) (b : Bool) → takes names_app words ≡ b
-    → names_if b words ≡ naming texts → HasNamesTexts words texts
+    → names_if b words ≡ by_name texts → HasNamesTexts words texts
 has_names words texts true taken is = let found = names_to _ _ _ _ _ _ texts is in record { taken = taken; task =
     found.0; kind = found.1; file = found.2; name = found.3; budget = found.4; certificate = found.5 }
 has_names words texts false taken is = cc
@@ -603,13 +603,13 @@ input_requested (word ∷ more) texts is =
     }
 
 -- only a query by names asks for one
-pub names_requested_by : (words : List Text) (texts : NamesTexts) → requested words ≡ naming texts
+pub names_requested_by : (words : List Text) (texts : NamesTexts) → requested words ≡ by_name texts
     → IsNamesQuery words texts
 unfolding names_requested
 names_requested_by [] texts is = cc
 names_requested_by (word ∷ more) texts is =
-    let name = name_is word more (naming texts) (Some command.Names) is refl in
-    let asks : names_requested more ≡ naming texts =
+    let name = name_is word more (by_name texts) (Some command.Names) is refl in
+    let asks : names_requested more ≡ by_name texts =
     ap (λ m. requested_by m (word ∷ more) more) (sym name) ∙ is in
     record {
       rest = more;
@@ -646,7 +646,7 @@ unknown_requested words is (for_live texts query) =
 unknown_requested words is (for_bench texts query) =
     let e : benching texts ≡ unknown = sym (requested_input words texts query) ∙ is in cc
 unknown_requested words is (for_names texts query) =
-    let e : naming texts ≡ unknown = sym (requested_names words texts query) ∙ is in cc
+    let e : by_name texts ≡ unknown = sym (requested_names words texts query) ∙ is in cc
 unknown_requested words is (for_af texts query) =
     let e : numbering texts ≡ unknown = sym (requested_af words texts query) ∙ is in cc
 
@@ -662,7 +662,7 @@ unless_words words (living texts) is other =
     absurd (other (for_live texts (script_requested words texts is)))
 unless_words words (benching texts) is other =
     absurd (other (for_bench texts (input_requested words texts is)))
-unless_words words (naming texts) is other =
+unless_words words (by_name texts) is other =
     absurd (other (for_names texts (names_requested_by words texts is)))
 unless_words words (numbering texts) is other =
     absurd (other (for_af texts (af_requested_by words texts is)))
@@ -866,7 +866,7 @@ unknown_words words c some asks other is =
       no_check = λ texts query. let e : unknown ≡ checking texts = none ∙ requested_texts words texts query in cc;
       no_live = λ texts query. let e : unknown ≡ living texts = none ∙ requested_script words texts query in cc;
       no_bench = λ texts query. let e : unknown ≡ benching texts = none ∙ requested_input words texts query in cc;
-      no_names = λ texts query. let e : unknown ≡ naming texts = none ∙ requested_names words texts query in cc;
+      no_names = λ texts query. let e : unknown ≡ by_name texts = none ∙ requested_names words texts query in cc;
       no_af = λ texts query. let e : unknown ≡ numbering texts = none ∙ requested_af words texts query in cc;
       others = other;
     }

@@ -306,7 +306,7 @@ pub data Request : Type 0 where
   checking : CheckTexts → Request
   living : LiveTexts → Request
   benching : BenchTexts → Request
-  naming : NamesTexts → Request
+  by_name : NamesTexts → Request
   numbering : AfTexts → Request
   unknown : Request
 
@@ -335,7 +335,7 @@ bench_request _ _ = unknown
 
 -- what the values of the options of a query by names ask for
 abbrev pub names_request : Option Text → Option Text → Option Text → Option Text → Option Text → Option Text → Request
-names_request (Some task) (Some kind) (Some file) name budget certificate = naming
+names_request (Some task) (Some kind) (Some file) name budget certificate = by_name
     (record { task = task; kind = kind; file = file; name = name; budget = budget; certificate = certificate })
 names_request _ _ _ _ _ _ = unknown
 
@@ -456,6 +456,6 @@ request_of (Solve words) = solving (solve_texts words)
 request_of (Check words) = checking (check_texts words)
 request_of (Live words) = living (live_texts words)
 request_of (Bench words) = benching (bench_texts words)
-request_of (Names words) = naming (names_texts words)
+request_of (Names words) = by_name (names_texts words)
 request_of (Af words) = numbering (af_texts words)
 request_of Unknown = unknown
