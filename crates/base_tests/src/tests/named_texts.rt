@@ -1,24 +1,25 @@
 //! The readers of texts with names, and the writer.
 
 use apx_tgf::NameCause::{BadLine, TooManyArguments, TooManyLines, UnknownName};
-use apx_tgf::{NameCause, NameFault, NamedAf, ReadFault, read_apx, read_tgf, write_named};
+use apx_tgf::{NameCause, NameFault, NameFormat, NamedAf, ReadFault, read_named, write_named};
 use std::alloc::Global;
 use std::test::Fail;
 
-/// What an APX text or else a TGF text, which is no longer than a text may be, gives.
-fn read<'a>(alloc: Global, is_apx: bool, text: &'a str) -> Option<Result<NamedAf<'a>, ReadFault>> {
+/// What a text, which is no longer than a text may be, gives.
+fn read<'a>(
+    alloc: Global,
+    format: NameFormat,
+    text: &'a str,
+) -> Option<Result<NamedAf<'a>, ReadFault>> {
     if text.len() > 268_435_456 {
         return None;
     }
-    if is_apx {
-        return Some(read_apx(alloc, text.as_bytes()));
-    }
-    Some(read_tgf(alloc, text.as_bytes()))
+    Some(read_named(alloc, format, text.as_bytes()))
 }
 
 /// Whether this is written of the framework that is read.
-fn is_written(alloc: Global, is_apx: bool, text: &str, written: &str) -> bool {
-    match read(alloc, is_apx, text) {
+fn is_written(alloc: Global, format: NameFormat, text: &str, written: &str) -> bool {
+    match read(alloc, format, text) {
         Some(Ok(named)) => match write_named(alloc, &named.names, &named.framework) {
             Ok(found) => found.as_slice() == written.as_bytes(),
             Err(_) => false,
@@ -28,8 +29,14 @@ fn is_written(alloc: Global, is_apx: bool, text: &str, written: &str) -> bool {
 }
 
 /// Whether this fault is told.
-fn is_refused(alloc: Global, is_apx: bool, text: &str, line: usize, cause: NameCause) -> bool {
-    match read(alloc, is_apx, text) {
+fn is_refused(
+    alloc: Global,
+    format: NameFormat,
+    text: &str,
+    line: usize,
+    cause: NameCause,
+) -> bool {
+    match read(alloc, format, text) {
         Some(Err(ReadFault::Line(fault))) => fault == NameFault { line, cause },
         _ => false,
     }
@@ -75,11 +82,11 @@ const APX_FAULTS: &[(&str, usize, NameCause)] = &[
 #[test]
 fn apx_texts(rt: HostRuntime) {
     for &(text, written) in APX_TEXTS {
-        assert!(rt; is_written(rt.alloc(), true, text, written), "at {text}");
+        assert!(rt; is_written(rt.alloc(), NameFormat::Apx, text, written), "at {text}");
     }
     for &(text, line, cause) in APX_FAULTS {
         assert!(rt;
-            is_refused(rt.alloc(), true, text, line, cause),
+            is_refused(rt.alloc(), NameFormat::Apx, text, line, cause),
             "at {text}"
         );
     }
@@ -110,11 +117,11 @@ const TGF_FAULTS: &[(&str, usize, NameCause)] = &[
 #[test]
 fn tgf_texts(rt: HostRuntime) {
     for &(text, written) in TGF_TEXTS {
-        assert!(rt; is_written(rt.alloc(), false, text, written), "at {text}");
+        assert!(rt; is_written(rt.alloc(), NameFormat::Tgf, text, written), "at {text}");
     }
     for &(text, line, cause) in TGF_FAULTS {
         assert!(rt;
-            is_refused(rt.alloc(), false, text, line, cause),
+            is_refused(rt.alloc(), NameFormat::Tgf, text, line, cause),
             "at {text}"
         );
     }
@@ -122,7 +129,7 @@ fn tgf_texts(rt: HostRuntime) {
 
 /// Whether the framework that is read has so many arguments.
 fn has_names(alloc: Global, text: &str, count: usize) -> bool {
-    match read(alloc, true, text) {
+    match read(alloc, NameFormat::Apx, text) {
         Some(Ok(named)) => named.names.len() == count,
         _ => false,
     }
@@ -137,7 +144,7 @@ fn too_many(rt: HostRuntime) -> Result<(), Fail> {
     text.push_str("arg(n1).\n")?;
     assert!(rt; has_names(rt.alloc(), text.as_str(), 1_000_000));
     text.push_str("arg(n1). arg(b).\n")?;
-    assert!(rt; is_refused(rt.alloc(), true, text.as_str(), 1_000_002, TooManyArguments));
+    assert!(rt; is_refused(rt.alloc(), NameFormat::Apx, text.as_str(), 1_000_002, TooManyArguments));
     Ok(())
 }
 
@@ -147,6 +154,18 @@ fn too_many_attacks(rt: HostRuntime) -> Result<(), Fail> {
     text.push_str("att(a,a).\n".repeat(rt.alloc(), 10_000_000)?.as_str())?;
     assert!(rt; has_names(rt.alloc(), text.as_str(), 1));
     text.push_str("att(a,a).\n")?;
-    assert!(rt; is_refused(rt.alloc(), true, text.as_str(), 10_000_002, TooManyLines));
+    assert!(rt; is_refused(rt.alloc(), NameFormat::Apx, text.as_str(), 10_000_002, TooManyLines));
+    Ok(())
+}
+
+#[test]
+fn a_long_name(rt: HostRuntime) -> Result<(), Fail> {
+    let name = "n".repeat(rt.alloc(), 1_000_000)?;
+    let name = name.as_str();
+    let apx = format!(in rt.alloc(); "arg({name}). att({name},{name}).")?;
+    let tgf = format!(in rt.alloc(); "{name}\n#\n{name} {name}")?;
+    let written = format!(in rt.alloc(); "# 1 {name}\np af 1\n1 1\n")?;
+    assert!(rt; is_written(rt.alloc(), NameFormat::Apx, apx.as_str(), written.as_str()));
+    assert!(rt; is_written(rt.alloc(), NameFormat::Tgf, tgf.as_str(), written.as_str()));
     Ok(())
 }

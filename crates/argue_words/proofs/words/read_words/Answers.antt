@@ -7,30 +7,35 @@ use Rattle.argue_words.proofs.words.read_words.Goals as goal
 
 pub returns-in-Some-Check-clause-unknown : goal.returns-in-Some-Check-clause-unknown
 returns-in-Some-Check-clause-unknown c =
+    let is : c.in-Some-Check.field-0 ≡ command.Check = search rules in
     named_unknown (map string_bytes c.args.words.now) (map string_bytes c.in-Some.rest.now)
     (string_bytes c.in-Some.first.now) command.Check c.read_check.result (search rules)
-    (ap named (sym c.as_str.ensures.value) ∙ sym c.named.ensures ∙ c.in-Some-Check.is) c.read_check.ensures.request
+    (ap named (sym c.as_str.ensures.value) ∙ sym c.named.ensures ∙ c.in-Some-Check.is ∙ ap Some is) c.read_check.ensures.request
 
 pub returns-in-Some-Live-clause-unknown : goal.returns-in-Some-Live-clause-unknown
 returns-in-Some-Live-clause-unknown c =
+    let is : c.in-Some-Live.field-0 ≡ command.Live = search rules in
     named_unknown (map string_bytes c.args.words.now) (map string_bytes c.in-Some.rest.now)
     (string_bytes c.in-Some.first.now) command.Live c.read_live.result (search rules)
-    (ap named (sym c.as_str.ensures.value) ∙ sym c.named.ensures ∙ c.in-Some-Live.is) c.read_live.ensures.request
+    (ap named (sym c.as_str.ensures.value) ∙ sym c.named.ensures ∙ c.in-Some-Live.is ∙ ap Some is) c.read_live.ensures.request
 
 pub returns-in-Some-Bench-clause-unknown : goal.returns-in-Some-Bench-clause-unknown
 returns-in-Some-Bench-clause-unknown c =
+    let is : c.in-Some-Bench.field-0 ≡ command.Bench = search rules in
     named_unknown (map string_bytes c.args.words.now) (map string_bytes c.in-Some.rest.now)
     (string_bytes c.in-Some.first.now) command.Bench c.read_bench.result (search rules)
-    (ap named (sym c.as_str.ensures.value) ∙ sym c.named.ensures ∙ c.in-Some-Bench.is) c.read_bench.ensures.request
+    (ap named (sym c.as_str.ensures.value) ∙ sym c.named.ensures ∙ c.in-Some-Bench.is ∙ ap Some is) c.read_bench.ensures.request
 
 pub returns-in-Some-Names-clause-unknown : goal.returns-in-Some-Names-clause-unknown
 returns-in-Some-Names-clause-unknown c =
+    let is : c.in-Some-Names.field-0 ≡ command.Names = search rules in
     named_unknown (map string_bytes c.args.words.now) (map string_bytes c.in-Some.rest.now)
     (string_bytes c.in-Some.first.now) command.Names c.read_names.result (search rules)
-    (ap named (sym c.as_str.ensures.value) ∙ sym c.named.ensures ∙ c.in-Some-Names.is) c.read_names.ensures.request
+    (ap named (sym c.as_str.ensures.value) ∙ sym c.named.ensures ∙ c.in-Some-Names.is ∙ ap Some is) c.read_names.ensures.request
 
 pub returns-in-Some-Af-clause-unknown : goal.returns-in-Some-Af-clause-unknown
 returns-in-Some-Af-clause-unknown c =
+    let is : c.in-Some-Af.field-0 ≡ command.Af = search rules in
     named_unknown (map string_bytes c.args.words.now) (map string_bytes c.in-Some.rest.now)
     (string_bytes c.in-Some.first.now) command.Af c.read_af.result (search rules)
-    (ap named (sym c.as_str.ensures.value) ∙ sym c.named.ensures ∙ c.in-Some-Af.is) c.read_af.ensures.request
+    (ap named (sym c.as_str.ensures.value) ∙ sym c.named.ensures ∙ c.in-Some-Af.is ∙ ap Some is) c.read_af.ensures.request
