@@ -2,7 +2,8 @@
 use Rattle.std.proofs.Common.{◌≡◌, ◌≢◌, ◌⊎◌, ◌<◌, ◌≤◌, ℕ, List, length, refl, sym, ap, subst, inl, inr, ⊎_elim}
 use Rattle.std.proofs.Common.{true, false, arith, Option, None, Some, Ok}
 use Rattle.argue_outside.specs.Outside.{KnownFile}
-use Rattle.argue_outside.specs.declared.Role.TheVariants.{Framework, Script as OfScript}
+use Rattle.argue_outside.specs.declared.Role.TheVariants.{Framework, Script as OfScript, Answer as OfAnswer}
+use Rattle.argue_outside.specs.declared.Role.TheVariants.{Certificate as OfCertificate}
 use Rattle.argue_words.specs.Words.{CheckTexts, IsSolveQuery, LiveTexts, Request, SolveTexts, requested}
 use Rattle.argue_words.proofs.RequestLaws.{requested_query}
 use Rattle.framework_text.specs.FrameworkText.{IsFaulty, ReadsAs}
@@ -378,12 +379,15 @@ module _ (found : Reading) (words : List (List ℕ)) (texts : CheckTexts) (asked
       cc e
 
   no_stops : (end : Status) → ¬ StopsAtFirst found end (check_inputs texts)
-  no_stops end (inl stops) = no_stop found _ _ (λ bytes reads. framework_sound bytes f reads) contents.of_framework end
-      stops.0
+  no_stops end (inl stops) =
+      no_stop found (input (Framework 1) texts.file) _
+      (λ bytes reads. framework_sound bytes f reads) contents.of_framework end stops.0
   no_stops end (inr (passed, inl stops)) =
-      no_stop found _ _ (λ bytes reads. answer_sound bytes answer reads) contents.of_answer end stops.0
+      no_stop found (input OfAnswer texts.answer) _
+      (λ bytes reads. answer_sound bytes answer reads) contents.of_answer end stops.0
   no_stops end (inr (passed, inr (passed', inl stops))) =
-      no_stop found _ _ (λ bytes reads. certificate_sound bytes certificate reads) contents.of_certificate end stops.0
+      no_stop found (input OfCertificate texts.certificate) _
+      (λ bytes reads. certificate_sound bytes certificate reads) contents.of_certificate end stops.0
   no_stops end (inr (passed, inr (passed', inr stops))) = stops.1
 
   checks_end : (end : Status) → ChecksFiles found.holds asked texts end → IsCheckEnd f asked answer certificate end
@@ -433,7 +437,8 @@ module _ (found : Reading) (words : List (List ℕ)) (texts : SolveTexts) (query
   pub ends_solve : (kept : Transcript) (end : Status) → EndsQuery found texts query kept end
       → IsSolveEnd f query kept end
   ends_solve kept end (inl stops) =
-      absurd (no_stop found _ _ (λ bytes reads. framework_sound bytes f reads) contents.of_framework end stops)
+      absurd (no_stop found (input (Framework 1) texts.file) _
+      (λ bytes reads. framework_sound bytes f reads) contents.of_framework end stops)
   ends_solve kept end (inr (inl is)) =
       let P : Status → Type 0 = IsSolveEnd f query kept in subst P (sym is) tt
   ends_solve kept end (inr (inr ends)) = solved_end kept end (replied kept end ends)
@@ -462,9 +467,11 @@ module _ (found : Reading) (words : List (List ℕ)) (texts : LiveTexts) (budget
 
   neither_stops : (end : Status) → ¬ StopsAtFirst found end (live_inputs texts)
   neither_stops end (inl stops) =
-      no_stop found _ _ (λ bytes reads. framework_sound bytes f reads) contents.of_framework end stops.0
+      no_stop found (input (Framework 1) texts.file) _
+      (λ bytes reads. framework_sound bytes f reads) contents.of_framework end stops.0
   neither_stops end (inr (passed, inl stops)) =
-      no_stop found _ _ (λ bytes reads. script_sound bytes script reads) contents.of_script end stops.0
+      no_stop found (input OfScript texts.script) _
+      (λ bytes reads. script_sound bytes script reads) contents.of_script end stops.0
   neither_stops end (inr (passed, inr stops)) = stops.1
 
   keeps_transcript : (kept : Transcript) (end : Status) → EndsLive found.holds budget texts kept end
@@ -531,7 +538,8 @@ module _ (found : Reading) (words : List (List ℕ)) (texts : LiveTexts) (budget
   pub refuses_script : (end : Status) → IsFaultyScript bytes → length bytes ≤ MAX_INPUT
       → EndsLiving found texts budget kept end → RefusesBytes OfScript bytes end
   refuses_script end faulty short (inl (inl stops)) =
-      absurd (no_stop found _ _ (λ bs reads. framework_sound bs f reads) asks.of_framework end stops.0)
+      absurd (no_stop found (input (Framework 1) texts.file) _
+      (λ bs reads. framework_sound bs f reads) asks.of_framework end stops.0)
   refuses_script end faulty short (inl (inr (passed, inl stops))) = stops_at_script end short stops.0
   refuses_script end faulty short (inl (inr (passed, inr stops))) = absurd stops.1
   refuses_script end faulty short (inr (inl is)) =
@@ -560,7 +568,8 @@ module _ (found : Reading) (words : List (List ℕ)) (texts : LiveTexts) (budget
   pub refuses_long_script : (end : Status) → MAX_INPUT < length bytes → EndsLiving found texts budget kept end
       → RefusesLength end
   refuses_long_script end long (inl (inl stops)) =
-      absurd (no_stop found _ _ (λ bs reads. framework_sound bs f reads) asks.of_framework end stops.0)
+      absurd (no_stop found (input (Framework 1) texts.file) _
+      (λ bs reads. framework_sound bs f reads) asks.of_framework end stops.0)
   refuses_long_script end long (inl (inr (passed, inl stops))) = stops_at_length end long stops.0
   refuses_long_script end long (inl (inr (passed, inr stops))) = absurd stops.1
   refuses_long_script end long (inr (inl is)) = subst RefusesLength (sym is) tt
