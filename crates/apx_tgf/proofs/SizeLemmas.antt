@@ -55,7 +55,7 @@ no_more_attacks count numbers f few is =
     let here : (i : ℕ) → i < length f.attacks → Contains f.attacks (slice_index_or f.attacks i (0, 0)) =
     λ i below. (i, below, get_or_default f.attacks i (slice_index_or f.attacks i (0, 0)) (0, 0) below) in
     let coded : (i : ℕ) (d : ℕ) → i < length f.attacks
-        → get_or (map code f.attacks) i d ≡ code (slice_index_or f.attacks i (0, 0)) =
+    → get_or (map code f.attacks) i d ≡ code (slice_index_or f.attacks i (0, 0)) =
     λ i d below. get_or-map code f.attacks i (0, 0) d below in
     let long = length-map f.attacks code in
     let shorter : length (map code f.attacks) ≤ length (map code numbers) =

@@ -166,18 +166,26 @@ asking_in found texts naming kept end (inl stops) = inl stops
 asking_in found texts naming kept end (inr (inl is)) = inr (inl is)
 asking_in found texts naming kept end (inr (inr (inl named))) =
     let file = named.answers in
-    inr (inr (file.answers.names, file.answers.framework, record {
-      bytes = file.bytes;
-      has = file.has;
-      reads = file.answers.reads;
-    }))
+    inr (inr (
+      file.answers.names,
+      file.answers.framework,
+      record {
+        bytes = file.bytes;
+        has = file.has;
+        reads = file.answers.reads;
+      },
+    ))
 asking_in found texts naming kept end (inr (inr (inr unnamed))) =
     let file = unnamed.asks in
-    inr (inr (file.asks.names, file.asks.framework, record {
-      bytes = file.bytes;
-      has = file.has;
-      reads = file.asks.reads;
-    }))
+    inr (inr (
+      file.asks.names,
+      file.asks.framework,
+      record {
+        bytes = file.bytes;
+        has = file.has;
+        reads = file.asks.reads;
+      },
+    ))
 
 pub numbering_in : (found : Reading) (texts : AfTexts) (format : NameFormat) (kept : Transcript) (end : Status)
     → EndsNumbering found texts format kept end → EndsInFormat found format texts.file end
@@ -185,11 +193,15 @@ numbering_in found texts format kept end (inl stops) = inl stops
 numbering_in found texts format kept end (inr (inl is)) = inr (inl is)
 numbering_in found texts format kept end (inr (inr numbered)) =
     let file = numbered.is in
-    inr (inr (file.is.names, file.is.framework, record {
-      bytes = file.bytes;
-      has = file.has;
-      reads = file.is.reads;
-    }))
+    inr (inr (
+      file.is.names,
+      file.is.framework,
+      record {
+        bytes = file.bytes;
+        has = file.has;
+        reads = file.is.reads;
+      },
+    ))
 
 module _ (found : Reading) (format : NameFormat) (file bytes : List ℕ) (known : found.holds file ≡ Some (Some bytes))
     (read : ¬ HasReadFault found (named_input format file)) where

@@ -49,11 +49,7 @@ pub(crate) fn answer_ending(
 }
 
 /// The ending without an answer: the line of its status.
-pub(crate) fn stop_ending(
-    alloc: Global,
-    stop: AnswerStop,
-    engine: Engine,
-) -> Result<Ending, Memory>
+pub(crate) fn stop_ending(alloc: Global, stop: AnswerStop, engine: Engine) -> Result<Ending, Memory>
     ensures { (text : List ℕ) (name : Option (List ℕ))
         → IfOk result (EndsSession (record { reply = Err stop; engine = engine }) text name) }
 {

@@ -11,20 +11,47 @@ use Rattle.argue_words.specs.declared.words.Command.TheVariants.{Unknown}
 use Rattle.argue_words.specs.declared.words.CommandName.{CommandName}
 use Rattle.argue_words.specs.declared.words.CommandName.TheVariants as command
 use Rattle.argue_words.specs.Words.{AfTexts, AreUnknown, AreWords, BenchTexts, CheckTexts, HasAfTexts, HasBenchTexts}
-use Rattle.argue_words.specs.Words.{HasCheckTexts, HasLiveTexts, HasNamesTexts, HasSolveTexts, IsAfQuery,
-    IsBenchQuery}
+use Rattle.argue_words.specs.Words.{
+  HasCheckTexts,
+  HasLiveTexts,
+  HasNamesTexts,
+  HasSolveTexts,
+  IsAfQuery,
+  IsBenchQuery,
+}
 use Rattle.argue_words.specs.Words.{IsCheckQuery, IsLiveQuery, IsNamesQuery, IsSolveQuery, LiveTexts, NamesTexts}
 use Rattle.argue_words.specs.Words.{RefusesOthers, Request, SolveTexts, version, problems, solving, checking, living}
 use Rattle.argue_words.specs.Words.{benching, by_name, numbering, unknown, af_app, af_request, af_requested, af_value}
 use Rattle.argue_words.specs.Words.{bench_app, bench_request, bench_requested, bench_value, check_app, check_request}
-use Rattle.argue_words.specs.Words.{check_requested, check_value, command_named, live_app, live_request,
-    live_requested}
-use Rattle.argue_words.specs.Words.{live_value, name_text, named, named_app, names_app, names_request,
-    names_requested}
+use Rattle.argue_words.specs.Words.{
+  check_requested,
+  check_value,
+  command_named,
+  live_app,
+  live_request,
+  live_requested,
+}
+use Rattle.argue_words.specs.Words.{
+  live_value,
+  name_text,
+  named,
+  named_app,
+  names_app,
+  names_request,
+  names_requested,
+}
 use Rattle.argue_words.specs.Words.{names_value, other_requested, request_of, requested, requested_by, solve_app}
 use Rattle.argue_words.specs.Words.{solve_request, solve_requested, solve_value, task_app, words_are_problems}
-use Rattle.argue_words.specs.Words.AreWords.{for_af, for_bench, for_check, for_list, for_live, for_names, for_none,
-    for_solve}
+use Rattle.argue_words.specs.Words.AreWords.{
+  for_af,
+  for_bench,
+  for_check,
+  for_list,
+  for_live,
+  for_names,
+  for_none,
+  for_solve,
+}
 
 -- ---- the names of commands
 
@@ -412,8 +439,15 @@ solve_to (Some task) (Some file) number budget certificate texts is =
 
 has_solve : (words : List Text) (texts : SolveTexts) (b : Bool) → takes solve_app words ≡ b
     → solve_if b words ≡ solving texts → HasSolveTexts words texts
-has_solve words texts true taken is = let found = solve_to _ _ _ _ _ texts is in record { taken = taken; task =
-    found.0; file = found.1; number = found.2; budget = found.3; certificate = found.4 }
+has_solve words texts true taken is = let found = solve_to _ _ _ _ _ texts is in record {
+  taken = taken;
+  task =
+      found.0;
+  file = found.1;
+  number = found.2;
+  budget = found.3;
+  certificate = found.4;
+}
 has_solve words texts false taken is = cc
 
 check_to : (task number file answer certificate : Option Text) (texts : CheckTexts)
@@ -435,8 +469,15 @@ check_to (Some task) number (Some file) (Some answer) (Some certificate) texts i
 
 has_check : (words : List Text) (texts : CheckTexts) (b : Bool) → takes check_app words ≡ b
     → check_if b words ≡ checking texts → HasCheckTexts words texts
-has_check words texts true taken is = let found = check_to _ _ _ _ _ texts is in record { taken = taken; task =
-    found.0; number = found.1; file = found.2; answer = found.3; certificate = found.4 }
+has_check words texts true taken is = let found = check_to _ _ _ _ _ texts is in record {
+  taken = taken;
+  task =
+      found.0;
+  number = found.1;
+  file = found.2;
+  answer = found.3;
+  certificate = found.4;
+}
 has_check words texts false taken is = cc
 
 live_to : (file script budget certificate : Option Text) (texts : LiveTexts)
@@ -455,8 +496,13 @@ live_to (Some file) (Some script) budget certificate texts is =
 
 has_live : (words : List Text) (texts : LiveTexts) (b : Bool) → takes live_app words ≡ b
     → live_if b words ≡ living texts → HasLiveTexts words texts
-has_live words texts true taken is = let found = live_to _ _ _ _ texts is in record { taken = taken; file = found.0;
-    script = found.1; budget = found.2; certificate = found.3 }
+has_live words texts true taken is = let found = live_to _ _ _ _ texts is in record {
+  taken = taken;
+  file = found.0;
+  script = found.1;
+  budget = found.2;
+  certificate = found.3;
+}
 has_live words texts false taken is = cc
 
 bench_to : (arguments seed : Option Text) (texts : BenchTexts) → bench_request arguments seed ≡ benching texts
@@ -471,8 +517,12 @@ bench_to (Some arguments) (Some seed) texts is =
 
 has_bench : (words : List Text) (texts : BenchTexts) (b : Bool) → takes bench_app words ≡ b
     → bench_if b words ≡ benching texts → HasBenchTexts words texts
-has_bench words texts true taken is = let found = bench_to _ _ texts is in record { taken = taken; arguments =
-    found.0; seed = found.1 }
+has_bench words texts true taken is = let found = bench_to _ _ texts is in record {
+  taken = taken;
+  arguments =
+      found.0;
+  seed = found.1;
+}
 has_bench words texts false taken is = cc
 
 names_to : (task kind file name budget certificate : Option Text) (texts : NamesTexts)
@@ -494,8 +544,16 @@ names_to (Some task) (Some kind) (Some file) name budget certificate texts is =
 
 has_names : (words : List Text) (texts : NamesTexts) (b : Bool) → takes names_app words ≡ b
     → names_if b words ≡ by_name texts → HasNamesTexts words texts
-has_names words texts true taken is = let found = names_to _ _ _ _ _ _ texts is in record { taken = taken; task =
-    found.0; kind = found.1; file = found.2; name = found.3; budget = found.4; certificate = found.5 }
+has_names words texts true taken is = let found = names_to _ _ _ _ _ _ texts is in record {
+  taken = taken;
+  task =
+      found.0;
+  kind = found.1;
+  file = found.2;
+  name = found.3;
+  budget = found.4;
+  certificate = found.5;
+}
 has_names words texts false taken is = cc
 
 af_to : (kind file : Option Text) (texts : AfTexts) → af_request kind file ≡ numbering texts
@@ -510,8 +568,12 @@ af_to (Some kind) (Some file) texts is =
 
 has_af : (words : List Text) (texts : AfTexts) (b : Bool) → takes af_app words ≡ b
     → af_if b words ≡ numbering texts → HasAfTexts words texts
-has_af words texts true taken is = let found = af_to _ _ texts is in record { taken = taken; kind = found.0; file =
-    found.1 }
+has_af words texts true taken is = let found = af_to _ _ texts is in record {
+  taken = taken;
+  kind = found.0;
+  file =
+      found.1;
+}
 has_af words texts false taken is = cc
 
 other_query : (words : List Text) (texts : SolveTexts) (b : Bool) → command_named words ≡ None

@@ -72,7 +72,7 @@ names_app = with_rule (with_rule (with_rule named_app (option_of (codes "name") 
 
 -- the command of `-k KIND` and `-f FILE`
 unfoldable pub af_app : App
-af_app = with_rule (with_rule bare_app (value_option (codes "kind") 107)) (value_option (codes "file") 102)
+af_app = with_rule (with_rule bare_app (value_option (codes "file") 102)) (value_option (codes "kind") 107)
 
 -- ---- the names of commands
 

@@ -5,4 +5,7 @@
 mod options;
 pub mod words;
 
-pub use words::{AfWords, BenchWords, CheckWords, Command, CommandName, LiveWords, NamesWords, SolveWords, read_words};
+pub use words::{
+    AfWords, BenchWords, CheckWords, Command, CommandName, LiveWords, NamesWords, SolveWords,
+    read_words,
+};

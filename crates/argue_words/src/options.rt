@@ -118,6 +118,6 @@ pub(crate) fn names_command<'a>(alloc: Global) -> Result<Command<'a>, AllocError
 pub(crate) fn af_command<'a>(alloc: Global) -> Result<Command<'a>, AllocError>
     ensures { IfOk result (λ c. app_of c ≡ af_app) }
 {
-    let command = with_arg(bare_command(alloc), value_arg(alloc, "kind", 'k', true))?;
-    with_arg(command, value_arg(alloc, "file", 'f', true))
+    let command = with_arg(bare_command(alloc), value_arg(alloc, "file", 'f', true))?;
+    with_arg(command, value_arg(alloc, "kind", 'k', true))
 }

@@ -10,7 +10,9 @@ ghost use Rattle.argue_words.specs.Words.{named, names_app, names_request, names
 ghost use Rattle.argue_words.specs.Words.{request_of, requested, solve_app, solve_request, solve_requested, solve_value};
 ghost use Rattle.argue_words.specs.Words.{words_are_problems};
 
-use crate::options::{af_command, bench_command, check_command, live_command, names_command, solve_command};
+use crate::options::{
+    af_command, bench_command, check_command, live_command, names_command, solve_command,
+};
 use clap::ArgMatches;
 use clap::error::ErrorKind;
 use lists::Memory;
@@ -394,14 +396,14 @@ fn names_of<'a>(matches: &ArgMatches<'a>) -> Command<'a>
         return Command::Unknown;
     };
     let name = matches.get_str("name");
-    let budget = matches.get_str("budget");
+    let units = matches.get_str("budget");
     let certificate = matches.get_str("certificate");
     Command::Names(NamesWords {
         task,
         kind,
         file,
         name,
-        budget,
+        budget: units,
         certificate,
     })
 }

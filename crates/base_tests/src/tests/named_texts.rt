@@ -82,7 +82,10 @@ const APX_FAULTS: &[(&str, usize, NameCause)] = &[
 #[test]
 fn apx_texts(rt: HostRuntime) {
     for &(text, written) in APX_TEXTS {
-        assert!(rt; is_written(rt.alloc(), NameFormat::Apx, text, written), "at {text}");
+        assert!(rt;
+            is_written(rt.alloc(), NameFormat::Apx, text, written),
+            "at {text}"
+        );
     }
     for &(text, line, cause) in APX_FAULTS {
         assert!(rt;
@@ -117,7 +120,10 @@ const TGF_FAULTS: &[(&str, usize, NameCause)] = &[
 #[test]
 fn tgf_texts(rt: HostRuntime) {
     for &(text, written) in TGF_TEXTS {
-        assert!(rt; is_written(rt.alloc(), NameFormat::Tgf, text, written), "at {text}");
+        assert!(rt;
+            is_written(rt.alloc(), NameFormat::Tgf, text, written),
+            "at {text}"
+        );
     }
     for &(text, line, cause) in TGF_FAULTS {
         assert!(rt;
@@ -144,7 +150,15 @@ fn too_many(rt: HostRuntime) -> Result<(), Fail> {
     text.push_str("arg(n1).\n")?;
     assert!(rt; has_names(rt.alloc(), text.as_str(), 1_000_000));
     text.push_str("arg(n1). arg(b).\n")?;
-    assert!(rt; is_refused(rt.alloc(), NameFormat::Apx, text.as_str(), 1_000_002, TooManyArguments));
+    assert!(rt;
+        is_refused(
+            rt.alloc(),
+            NameFormat::Apx,
+            text.as_str(),
+            1_000_002,
+            TooManyArguments
+        )
+    );
     Ok(())
 }
 
@@ -154,7 +168,15 @@ fn too_many_attacks(rt: HostRuntime) -> Result<(), Fail> {
     text.push_str("att(a,a).\n".repeat(rt.alloc(), 10_000_000)?.as_str())?;
     assert!(rt; has_names(rt.alloc(), text.as_str(), 1));
     text.push_str("att(a,a).\n")?;
-    assert!(rt; is_refused(rt.alloc(), NameFormat::Apx, text.as_str(), 10_000_002, TooManyLines));
+    assert!(rt;
+        is_refused(
+            rt.alloc(),
+            NameFormat::Apx,
+            text.as_str(),
+            10_000_002,
+            TooManyLines
+        )
+    );
     Ok(())
 }
 
