@@ -321,8 +321,8 @@ names_cause : (found : Reading) (naming : Naming) (texts : NamesTexts) (end : St
     → EndsCommand found (names_row found.holds (Some naming) texts) nothing_kept end
 names_cause found naming texts end (inl (inl stops)) = inl (refl, inl (inl (stops, follow_none found end)))
 names_cause found naming texts end (inl (inr memory)) = inl (refl, inr (memory, refl))
-names_cause found naming texts end (inr unknown) =
-    inr (inr (record { keeps = refl; asks = unknown.1; ends = unknown.0 }))
+names_cause found naming texts end (inr unnamed) =
+    inr (inr (record { keeps = refl; asks = unnamed.1; ends = unnamed.0 }))
 
 module _ (found : Reading) (by : Option Naming) (texts : NamesTexts) (ending : Ending) where
   abbrev IsNamesEnding : Option Naming → Type 0

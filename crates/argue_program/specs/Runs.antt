@@ -1,5 +1,5 @@
 -- What a run does, and what follows of it in the words of its query.
-use Rattle.std.specs.Prelude.{◌≡◌, ◌≢◌, ℕ, ◌⊎◌, ◌<◌, ◌≤◌, true, List, length, map, take, slice_index_or, Ok, Some}
+use Rattle.std.specs.Prelude.{◌≡◌, ◌≢◌, ℕ, ◌⊎◌, ◌<◌, ◌≤◌, true, List, length, map, take, slice_index_or, Ok, Some, Option}
 use Rattle.std.specs.Io.KnownBytes.{Appends}
 use Rattle.argue_outside.specs.Outside.{FaultCounted, KnownFile}
 use Rattle.argue_outside.specs.declared.Role.{Role}
