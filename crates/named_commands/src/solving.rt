@@ -100,7 +100,7 @@ fn solve_text(
     name: Option<&str>,
 ) -> Result<NamedSession, Status>
     requires within { length bytes.now ≤ MAX_INPUT }
-    requires fits { fits_name naming.now.task.problem (option_map (λ text. text.now) name.entry) ≡ true }
+    requires fits { fits_name naming.now.task.problem (option_map (λ text. text.now) name) ≡ true }
     ensures ok { IfOk result (λ s. AnswersNamed bytes.now naming.now (option_map (λ text. text.now) name.entry)
         s.session s.text) }
     ensures err { IfErr result
