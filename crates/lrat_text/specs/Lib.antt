@@ -1,0 +1,7 @@
+pub mod Causes
+pub mod Checking
+pub mod CnfText
+pub mod Lines
+pub mod LratText
+pub mod Numbers
+pub mod Unsatisfiable
