@@ -6,26 +6,10 @@ use Rattle.std.proofs.lemmas.Bool.{cases_lt}
 use Rattle.std.proofs.lemmas.List.{get_or_append_left, get_or-append-add}
 use Rattle.std.proofs.lemmas.List.Elements.{Contains-get_or, Contains-push_cases}
 use Rattle.plain_lits.specs.declared.lit.Lit.{Lit}
-use Rattle.plain_lits.specs.Checking.{HasRoomFor, HaveRoomFor, IsPackable}
+use Rattle.meaning_atoms.specs.declared.atom.AtomLit.{AtomLit}
 use Rattle.lists.proofs.Membership.{Contains-nil}
 use Rattle.lrat_text.specs.CnfText.{Formula, IsFormula}
 use Rattle.lrat_text.specs.Checking.{AreIds, CheckState, check_state, IsLast, IsCheckState}
-
--- a literal over the CNF's variables has room
-pub room_for : (s : CheckState) (truths : List Lit) (room vars : ℕ) (clause : List Lit) → IsCheckState s truths room
-    → s.vars ≡ vars → ((l : Lit) → Contains clause l → l.var ≤ vars) → HasRoomFor room clause
-room_for s truths room vars clause h same within l c =
-    let low = within l c in
-    let high = h.vars_room in
-    omega (arith, low, high, same)
-
--- and can be packed
-pub packable_for : (s : CheckState) (truths : List Lit) (room vars : ℕ) (clause : List Lit) → IsCheckState s truths room
-    → s.vars ≡ vars → ((l : Lit) → Contains clause l → l.var ≤ vars) → IsPackable clause
-packable_for s truths room vars clause h same within l c =
-    let low = within l c in
-    let high = h.few in
-    omega (arith, low, high, same)
 
 -- a rising list with one number more that is above all of it
 push_rises : (ids : List ℕ) (id : ℕ) → IsStrictlyIncreasing ids → ((i : ℕ) → Contains ids i → i < id)
@@ -55,66 +39,34 @@ push_ids count ids id last h low all above fits = record {
   fit = λ i c. ⊎_elim (λ old. h.fit i old) (λ (e : id ≡ i). omega (arith, e, fits)) (Contains-push_cases ids id i c);
 }
 
--- the state is kept where no literal is assumed and the room is the same
-pub kept_state : (s : CheckState) (truths truths' : List Lit) (room room' : ℕ) → IsCheckState s truths room
-    → truths' ≡ [] → room' ≡ room → IsCheckState s truths' room'
-kept_state s truths truths' room room' h clear same = record {
-  ids = h.ids;
-  long = h.long;
-  clear = clear;
-  clauses_room = λ clause c l m. let lt = h.clauses_room clause c l m in omega (arith, lt, same);
-  vars_room = let lt = h.vars_room in omega (arith, lt, same);
-  few = h.few;
-}
-
 -- the state with one more line
-pub added_state : (s view : CheckState) (truths truths' : List Lit) (room room' : ℕ) (id : ℕ) (clause : List Lit)
-    (ids' : List ℕ) (clauses' : List (List Lit)) → IsCheckState s truths room → s ≡ view → truths' ≡ [] → room' ≡ room
-    → (last : ℕ) × IsLast last view × (last < id) → id < 2 ^ 32
-    → ((l : Lit) → Contains clause l → l.var ≤ view.vars) → ids' ≡ s.ids ++ id ∷ [] → clauses' ≡ s.clauses ++ clause ∷ []
-    → IsCheckState (check_state s.vars s.count ids' clauses') truths' room'
-added_state s view truths truths' room room' id clause ids' clauses' h viewed clear same last fits within more_ids
-    more_clauses =
-    let counted : s.count ≤ last.0 = subst (λ v. v.count ≤ last.0) (sym viewed) last.1.count in
-    let all : (i : ℕ) → Contains s.ids i → i ≤ last.0
+pub added_state : (vars count : ℕ) (ids new : List ℕ) (clauses : List (List AtomLit)) (view : CheckState) (id : ℕ)
+    → IsCheckState vars count ids → check_state vars count ids clauses ≡ view
+    → (last : ℕ) × IsLast last view × (last < id) → id < 2 ^ 32 → new ≡ ids ++ id ∷ [] → IsCheckState vars count new
+added_state vars count ids new clauses view id h viewed last fits more =
+    let counted : count ≤ last.0 = subst (λ v. v.count ≤ last.0) (sym viewed) last.1.count in
+    let all : (i : ℕ) → Contains ids i → i ≤ last.0
     = subst (λ (v : CheckState). (i : ℕ) → Contains v.ids i → i ≤ last.0) (sym viewed) last.1.ids in
-    let bound : (l : Lit) → Contains clause l → l.var ≤ s.vars
-    = subst (λ (v : CheckState). (l : Lit) → Contains clause l → l.var ≤ v.vars) (sym viewed) within in
-    rw (more_ids, more_clauses) (record {
-      ids = push_ids s.count s.ids id last.0 h.ids counted all last.2 fits;
-      long =
-          let a = length-append s.ids (id ∷ []) in
-          let b = length-append s.clauses (clause ∷ []) in
-          let c = h.long in
-          omega (arith, a, b, c);
-      clear = clear;
-      clauses_room = λ one c l m. ⊎_elim
-          (λ old. let lt = h.clauses_room one old l m in omega (arith, lt, same))
-          (λ (e : clause ≡ one).
-          let lt = bound l (subst (λ ls. Contains ls l) (sym e) m) in
-          let high = h.vars_room in
-          omega (arith, lt, high, same))
-          (Contains-push_cases s.clauses clause one c);
-      vars_room = let lt = h.vars_room in omega (arith, lt, same);
-      few = h.few;
-    })
+    rw more (record { in_order = push_ids count ids id last.0 h.in_order counted all last.2 fits; few = h.few })
 
 -- the state before the first line
-pub new_state : (f : Formula) (vars count room : ℕ) (ids : List ℕ) (clauses : List (List Lit)) (truths : List Lit)
-    → IsFormula f → vars ≡ f.vars → clauses ≡ f.clauses → count ≡ length clauses → ids ≡ [] → truths ≡ [] → vars < room
-    → IsCheckState (check_state vars count ids clauses) truths room
-new_state f vars count room ids clauses truths h same same_clauses counted none clear more = rw none (record {
-  ids = record {
+pub new_state : (f : Formula) (vars count : ℕ) (ids : List ℕ) → IsFormula f → vars ≡ f.vars → ids ≡ []
+    → IsCheckState vars count ids
+new_state f vars count ids h same none = rw none (record {
+  in_order = record {
     rise = λ k lt. absurd (omega arith);
     above = λ id c. absurd (Contains-nil id c);
     fit = λ id c. absurd (Contains-nil id c);
   };
-  long = omega (arith, counted);
-  clear = clear;
-  clauses_room = λ clause c l m.
-      let in_f = subst (λ cs. Contains cs clause) same_clauses c in
-      let le = (h.clauses clause l in_f m).within in
-      omega (arith, le, same, more);
-  vars_room = more;
   few = let le = h.few in omega (arith, le, same);
 })
+
+-- a line's literal is one that can be spelled
+pub literals_low : (vars count : ℕ) (ids : List ℕ) (clauses : List (List AtomLit)) (view : CheckState) (given : List Lit)
+    (clause : List Lit) → IsCheckState vars count ids → check_state vars count ids clauses ≡ view → given ≡ clause
+    → ((l : Lit) → Contains clause l → l.var ≤ view.vars) → (l : Lit) → Contains given l → l.var < 2147483648
+literals_low vars count ids clauses view given clause h viewed same within l c =
+    let low = within l (subst (λ ls. Contains ls l) same c) in
+    let high = h.few in
+    let e : vars ≡ view.vars = ap (λ (v : CheckState). v.vars) viewed in
+    omega (arith, low, high, e)

@@ -8,3 +8,4 @@ pub mod LineForms
 pub mod LineParts
 pub mod NamedSteps
 pub mod Soundness
+pub mod Spellings

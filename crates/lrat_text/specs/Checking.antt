@@ -1,11 +1,12 @@
 -- The check of the lines of a refutation, one after the other.
-use Rattle.std.specs.Prelude.{◌≡◌, ◌≢◌, ◌⊎◌, ℕ, ◌+◌, ◌<◌, ◌≤◌, ◌==◌, ◌^◌, List, [], ◌∷◌, ◌++◌, length, map, Contains, Option, None, Some, Ok, Err}
+use Rattle.std.specs.Prelude.{◌≡◌, ◌≢◌, ◌⊎◌, ℕ, ◌+◌, ◌<◌, ◌≤◌, ◌==◌, ◌^◌, Bool, true, false, List, [], ◌∷◌, ◌++◌, length, map, Contains, Option, None, Some, Ok, Err}
 use Rattle.std.specs.List.{position, range_with_len}
 use Rattle.std.specs.List.Sorted.{IsStrictlyIncreasing}
 use Rattle.plain_lits.specs.declared.lit.Lit.{Lit}
 use Rattle.plain_lits.specs.Literals.{negation}
 use Rattle.plain_lits.specs.HintCheck.{Checks}
-use Rattle.plain_lits.specs.Checking.{HaveRoomFor}
+use Rattle.meaning_atoms.specs.declared.atom.AtomLit.{AtomLit}
+use Rattle.lrat_text.specs.Spelling.{spelled_clause, clauses_of}
 use Rattle.lrat_text.specs.declared.cnf.TheConstants.{MAX_VARIABLE}
 use Rattle.lrat_text.specs.declared.steps.Taken.{Taken}
 use Rattle.lrat_text.specs.declared.steps.Taken.TheVariants.{Failed, Passed, Empty}
@@ -83,32 +84,40 @@ pub record CheckState : Type 0 where
   pub vars : ℕ
   pub count : ℕ
   pub ids : List ℕ
-  pub clauses : List (List Lit)
+  pub clauses : List (List AtomLit)
 
-abbrev pub check_state : ℕ → ℕ → List ℕ → List (List Lit) → CheckState
+abbrev pub check_state : ℕ → ℕ → List ℕ → List (List AtomLit) → CheckState
 check_state vars count ids clauses = record { vars = vars; count = count; ids = ids; clauses = clauses }
 
 -- the steps of a state
 abbrev pub steps_in : CheckState → StepList
-steps_in s = step_list (range_with_len 1 s.count ++ s.ids) s.clauses
+steps_in s = step_list (range_with_len 1 s.count ++ s.ids) (clauses_of s.clauses)
 
 -- no id of the state is over this one
 pub record IsLast (last : ℕ) (s : CheckState) : Type 0 where
   pub count : s.count ≤ last
   pub ids : (id : ℕ) → Contains s.ids id → id ≤ last
 
--- each clause of the state has its id, between two checks no literal is assumed, and each variable has room
-pub record IsCheckState (s : CheckState) (truths : List Lit) (room : ℕ) : Type 0 where
-  pub ids : AreIds s.count s.ids
-  pub long : length s.clauses ≡ s.count + length s.ids
-  pub clear : truths ≡ []
-  pub clauses_room : HaveRoomFor room s.clauses
-  pub vars_room : s.vars < room
-  pub few : s.vars ≤ MAX_VARIABLE
+-- the ids of a state are in order, and its variables are not too many
+pub record IsCheckState (vars count : ℕ) (ids : List ℕ) : Type 0 where
+  pub in_order : AreIds count ids
+  pub few : vars ≤ MAX_VARIABLE
+
+-- a clause with these hints passes and is added, or fails, beside these steps
+abbrev pub LineTakes : StepList → List (List AtomLit) → List (List AtomLit) → List Lit → List ℕ → Bool → Type 0
+LineTakes steps before after clause hints true = IsTaken steps.clauses clause (map (number_of steps.ids) hints)
+    × (after ≡ before ++ spelled_clause clause ∷ [])
+LineTakes steps before after clause hints false = IsRejected steps.clauses clause (map (number_of steps.ids) hints)
+    × (after ≡ before)
+
+-- the line passes, and is added
+pub record IsAdded (before after : CheckState) (line : StepLine) : Type 0 where
+  pub passes : Passes (steps_in before) line
+  pub after_is : after ≡ check_state before.vars before.count (before.ids ++ line.id ∷ [])
+      (before.clauses ++ spelled_clause line.clause ∷ [])
 
 -- what becomes of a line
 abbrev pub TakenAs : CheckState → CheckState → StepLine → Taken → Type 0
 TakenAs before after line Failed = Fails (steps_in before) line × (after ≡ before)
-TakenAs before after line Empty = Passes (steps_in before) line × (line.clause ≡ []) × (after ≡ before)
-TakenAs before after line Passed = Passes (steps_in before) line × (line.clause ≢ [])
-    × (after ≡ check_state before.vars before.count (before.ids ++ line.id ∷ []) (before.clauses ++ line.clause ∷ []))
+TakenAs before after line Empty = (line.clause ≡ []) × IsAdded before after line
+TakenAs before after line Passed = (line.clause ≢ []) × IsAdded before after line

@@ -4,4 +4,5 @@ pub mod CnfText
 pub mod Lines
 pub mod LratText
 pub mod Numbers
+pub mod Spelling
 pub mod Unsatisfiable

@@ -6,6 +6,7 @@ ghost use Rattle.lrat_text.specs.declared.verdict.Verdict.TheVariants.{Verified}
 ghost use Rattle.lrat_text.specs.LratText.{IsChecked, IsJudged, IsFaultOf, AreSomeSteps};
 ghost use Rattle.lrat_text.specs.Lines.{lrat_kept};
 ghost use Rattle.lrat_text.specs.Checking.{steps_in, IsLast};
+ghost use Rattle.lrat_text.specs.Spelling.{AreSpelled};
 ghost use Rattle.lrat_text.specs.Unsatisfiable.{HasNoModel};
 
 use crate::cnf::Cnf;
@@ -25,7 +26,8 @@ fn judge(
     step: &mut StepText,
     last: &mut u32,
 ) -> Result<Verdict, LratFault>
-    requires { IsLast last.old steps.old }
+    requires last { IsLast last.old steps.old }
+    requires spelled { AreSpelled steps.old.clauses }
     ensures judged { IfOk result
         (IsJudged steps.old.vars last.old (steps_in steps.old) (lrat_kept left.old) last.new (lrat_kept left.new)) }
     ensures fault { IfErr result (IsFaultOf steps.old.vars last.old (lrat_kept left.old)) }
