@@ -6,4 +6,5 @@ mod literals;
 mod logs;
 mod named;
 mod propagation;
+mod refutations;
 mod solving;
