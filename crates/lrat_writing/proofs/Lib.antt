@@ -1,0 +1,4 @@
+pub mod CnfBack
+pub mod LratBack
+pub mod Verifies
+pub mod ZeroLines

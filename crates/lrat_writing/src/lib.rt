@@ -1,0 +1,7 @@
+//! Refutations as text, written: the log of a refutation as a CNF and as LRAT lines, which the reader and the check of
+//! `lrat_text` verify.
+#![tactic(auto)]
+
+mod laws;
+
+pub use laws::{cnf_reads_back, log_is_verified, refutation_reads_back};
