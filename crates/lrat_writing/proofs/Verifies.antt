@@ -66,8 +66,9 @@ apart_from done ls l rise c =
     let long = length-append done (l ∷ ls) in
     let before = rise.order c.0 (length done) l c.1 (omega (arith, long)) in
     let left : get_or (done ++ l ∷ ls) c.0 l ≡ l = get_or_append_left done (l ∷ ls) l c.0 c.1 ∙ c.2 in
+    let there : length done ≡ length done + 0 = omega arith in
     let right : get_or (done ++ l ∷ ls) (length done) l ≡ l
-    = ap (λ n. get_or (done ++ l ∷ ls) n l) (omega arith) ∙ get_or-append-add done (l ∷ ls) 0 l in
+    = ap (λ n. get_or (done ++ l ∷ ls) n l) there ∙ get_or-append-add done (l ∷ ls) 0 l in
     not_before_itself l (subst (λ x. IsLitBefore x l) left
     (subst (λ x. IsLitBefore (get_or (done ++ l ∷ ls) c.0 l) x) right before))
 
@@ -88,10 +89,12 @@ number_itself n id above le =
     omega (arith, is)
 
 row_more : (a n : ℕ) → range_with_len a n ++ (a + n) ∷ [] ≡ range_with_len a (n + 1)
-row_more a zero = ap (λ x. x ∷ []) (omega arith) ∙ ap (range_with_len a) (omega arith)
+row_more a zero = let e : a + 0 ≡ a = omega arith in ap (λ x. x ∷ []) e
 row_more a (suc n) =
-    ap (λ r. a ∷ r) (ap (λ x. range_with_len (a + 1) n ++ x ∷ []) (omega arith) ∙ row_more (a + 1) n)
-    ∙ ap (range_with_len a) (omega arith)
+    let e : a + suc n ≡ (a + 1) + n = omega arith in
+    let e' : suc (n + 1) ≡ suc n + 1 = omega arith in
+    ap (λ r. a ∷ r) (ap (λ x. range_with_len (a + 1) n ++ x ∷ []) e ∙ row_more (a + 1) n)
+    ∙ ap (λ m. range_with_len a m) e'
 
 -- ---- a clause at an id
 
@@ -115,10 +118,11 @@ at_more clauses more id clause h =
 at_index : (front back : List (List Lit)) (clause : List Lit) → IsAt (front ++ clause ∷ back) (length front + 1) clause
 at_index front back clause =
     let long = length-append front (clause ∷ back) in
+    let there : length front + 1 - 1 ≡ length front + 0 = omega arith in
     record {
       from_one = omega arith;
       within = omega (arith, long);
-      is = ap (λ n. get_or (front ++ clause ∷ back) n []) (omega arith) ∙ get_or-append-add front (clause ∷ back) 0 [];
+      is = ap (λ n. get_or (front ++ clause ∷ back) n []) there ∙ get_or-append-add front (clause ∷ back) 0 [];
     }
 
 at_place : (clauses front back : List (List Lit)) (id : ℕ) (clause : List Lit) → clauses ≡ front ++ clause ∷ back
@@ -158,13 +162,16 @@ record Kept (cnf : List (List Lit)) (steps : List Step) (k : ℕ) (w : Walk) : T
   comes : (more : List StepLine) → ComesTo (state cnf w.lines) more Verified
       → ComesTo (steps_of cnf) (w.lines ++ more) Verified
 
+no_more : (n : ℕ) → n + 0 ≡ n
+no_more n = omega arith
+
 kept_start : (cnf : List (List Lit)) (steps : List Step) → Kept cnf steps 0 start
 kept_start cnf steps = record {
   long = refl;
   given = refl;
   named = λ number above le. absurd (omega arith);
   comes = λ more h. subst (λ st. ComesTo st more Verified)
-      (ap (λ n. step_list (range_with_len 1 n) (cnf ++ [])) (omega arith)
+      (ap (λ n. step_list (range_with_len 1 n) (cnf ++ [])) (no_more (length cnf))
       ∙ ap (λ cs. step_list (range_with_len 1 (length cnf)) cs) (append-nil cnf)) h;
 }
 
@@ -176,8 +183,9 @@ named_push : (steps : List Step) (k : ℕ) (ids : List ℕ) (clauses more : List
 named_push steps k ids clauses more x long named here number above le = elim (cases_lt k number) [
   | inl new ↦
       let at : number - 1 ≡ k = omega arith in
+      let there : number - 1 ≡ length ids + 0 = omega (arith, long) in
       let id : get_or (ids ++ x ∷ []) (number - 1) 0 ≡ x
-      = ap (λ n. get_or (ids ++ x ∷ []) n 0) (omega arith) ∙ get_or-append-add ids (x ∷ []) 0 0 in
+      = ap (λ n. get_or (ids ++ x ∷ []) n 0) there ∙ get_or-append-add ids (x ∷ []) 0 0 in
       subst (λ n. IsAt (clauses ++ more) n (shifted_clause (step_at steps number).clause)) (sym id)
       (subst (λ n. IsAt (clauses ++ more) x (shifted_clause (get_or steps n no_step).clause)) (sym at) here)
   | inr old ↦
@@ -334,12 +342,14 @@ kept_derived steps k w lt e check h =
     let here : IsAt (all_clauses cnf w.lines ++ line.clause ∷ []) id (shifted_clause s.clause)
     = at_place (all_clauses cnf w.lines ++ line.clause ∷ []) (all_clauses cnf w.lines) [] id (shifted_clause s.clause) refl
     (omega (arith, whole)) in
+    let added = length-append w.lines (line ∷ []) in
+    let n = length cnf + length w.lines in
+    let count : length cnf + length more_lines ≡ n + 1 = omega (arith, added) in
+    let top : 1 + n ≡ id = omega arith in
     let next : state cnf more_lines ≡ with_line (state cnf w.lines) line
-    = ap (λ n. step_list (range_with_len 1 n) (all_clauses cnf more_lines))
-    (let a = length-append w.lines (line ∷ []) in omega (arith, a))
+    = ap (λ m. step_list (range_with_len 1 m) (all_clauses cnf more_lines)) count
     ∙ (ap (λ ids. step_list ids (all_clauses cnf more_lines))
-    (sym (row_more 1 (length cnf + length w.lines))
-    ∙ ap (λ x. range_with_len 1 (length cnf + length w.lines) ++ x ∷ []) (omega arith))
+    (sym (row_more 1 n) ∙ ap (λ x. range_with_len 1 n ++ x ∷ []) top)
     ∙ ap (λ cs. step_list (range_with_len 1 (length cnf + length w.lines) ++ id ∷ []) cs) (all_more cnf w.lines line)) in
     record {
       long = pushed_long w.ids k id h.long;
@@ -465,9 +475,10 @@ are_units clauses front back (l ∷ ls) cut =
     let u = negation (shifted l) ∷ [] in
     let rest = map shifted_clause (map unit_of ls) ++ back in
     let long = length-append front (u ∷ []) in
+    let next : length (front ++ u ∷ []) + 1 ≡ length front + 1 + 1 = omega (arith, long) in
     (
       at_place clauses front rest (length front + 1) u cut refl,
-      subst (λ n. AreUnits clauses n ls) (omega (arith, long))
+      subst (λ n. AreUnits clauses n ls) next
           (are_units clauses (front ++ u ∷ []) back ls (cut ∙ sym (append_assoc front (u ∷ []) rest))),
     )
 
