@@ -88,7 +88,7 @@ number_itself n id above le =
     let is = number_at_index (range_with_len 1 n) (id - 1) id (row_rises n) (omega (arith, long)) (omega (arith, at)) in
     omega (arith, is)
 
-row_more : (a n : ℕ) → range_with_len a n ++ (a + n) ∷ [] ≡ range_with_len a (n + 1)
+pub row_more : (a n : ℕ) → range_with_len a n ++ (a + n) ∷ [] ≡ range_with_len a (n + 1)
 row_more a zero = let e : a + 0 ≡ a = omega arith in ap (λ x. x ∷ []) e
 row_more a (suc n) =
     let e : a + suc n ≡ (a + 1) + n = omega arith in
@@ -98,10 +98,10 @@ row_more a (suc n) =
 
 -- ---- a clause at an id
 
-record IsAt (clauses : List (List Lit)) (id : ℕ) (clause : List Lit) : Type 0 where
-  from_one : 0 < id
-  within : id ≤ length clauses
-  is : clause_at clauses id ≡ clause
+pub record IsAt (clauses : List (List Lit)) (id : ℕ) (clause : List Lit) : Type 0 where
+  pub from_one : 0 < id
+  pub within : id ≤ length clauses
+  pub is : clause_at clauses id ≡ clause
 
 at_more : (clauses more : List (List Lit)) (id : ℕ) (clause : List Lit) → IsAt clauses id clause
     → IsAt (clauses ++ more) id clause
@@ -133,16 +133,16 @@ at_place clauses front back id clause cut e =
 
 -- ---- the walk
 
-abbrev line_clauses : List StepLine → List (List Lit)
+abbrev pub line_clauses : List StepLine → List (List Lit)
 line_clauses lines = map (λ (l : StepLine). l.clause) lines
 
-abbrev all_clauses : List (List Lit) → List StepLine → List (List Lit)
+abbrev pub all_clauses : List (List Lit) → List StepLine → List (List Lit)
 all_clauses cnf lines = cnf ++ line_clauses lines
 
 abbrev state : List (List Lit) → List StepLine → StepList
 state cnf lines = step_list (range_with_len 1 (length cnf + length lines)) (all_clauses cnf lines)
 
-all_long : (cnf : List (List Lit)) (lines : List StepLine)
+pub all_long : (cnf : List (List Lit)) (lines : List StepLine)
     → length (all_clauses cnf lines) ≡ length cnf + length lines
 all_long cnf lines =
     let a = length-append cnf (line_clauses lines) in
@@ -154,12 +154,12 @@ all_more : (cnf : List (List Lit)) (lines : List StepLine) (line : StepLine)
 all_more cnf lines line = ap (λ cs. cnf ++ cs) (map-append (λ (l : StepLine). l.clause) lines (line ∷ []))
     ∙ sym (append_assoc cnf (line_clauses lines) (line.clause ∷ []))
 
-record Kept (cnf : List (List Lit)) (steps : List Step) (k : ℕ) (w : Walk) : Type 0 where
-  long : length w.ids ≡ k
-  given : w.given ≡ length (given_clauses (take k steps))
-  named : (number : ℕ) → 0 < number → number ≤ k
+pub record Kept (cnf : List (List Lit)) (steps : List Step) (k : ℕ) (w : Walk) : Type 0 where
+  pub long : length w.ids ≡ k
+  pub given : w.given ≡ length (given_clauses (take k steps))
+  pub named : (number : ℕ) → 0 < number → number ≤ k
       → IsAt (all_clauses cnf w.lines) (id_in w.ids number) (shifted_clause (step_at steps number).clause)
-  comes : (more : List StepLine) → ComesTo (state cnf w.lines) more Verified
+  pub comes : (more : List StepLine) → ComesTo (state cnf w.lines) more Verified
       → ComesTo (steps_of cnf) (w.lines ++ more) Verified
 
 no_more : (n : ℕ) → n + 0 ≡ n
@@ -270,6 +270,18 @@ taken_clause steps k number within above le =
     (sym (get_or_append_left (take k steps) (drop k steps) no_step (number - 1) (omega (arith, long)))
     ∙ ap (λ ss. get_or ss (number - 1) no_step) (take-append-drop k steps))
 
+-- the hints of a derived step name steps before it
+pub hint_named : (steps : List Step) (k : ℕ) (clause : List Lit) (hints : List ℕ) → k ≤ length steps
+    → Checks negation (clauses_of (take k steps)) clause hints (Ok (length hints))
+    → (hint : ℕ) → Contains hints hint → (0 < hint) × (hint ≤ k)
+hint_named steps k clause hints within check hint c =
+    let sound = taken_sound negation (clauses_of (take k steps)) clause hints (length hints) check in
+    let named = sound.named hint (subst (λ hs. Contains hs hint) (sym (take-length hints)) c) in
+    let long = length-map (take k steps) (λ (s : Step). s.clause) in
+    let longer = length-take-le k steps within in
+    let high = named.within in
+    (named.from_one, omega (arith, long, longer))
+
 derived_passes : (cnf : List (List Lit)) (steps : List Step) (k : ℕ) (w : Walk) (clause : List Lit) (hints : List ℕ)
     → k ≤ length steps → Kept cnf steps k w
     → Checks negation (clauses_of (take k steps)) clause hints (Ok (length hints))
@@ -376,10 +388,10 @@ kept_next steps k w Axiom lt e meets h = kept_given steps k w Axiom lt e refl h
 kept_next steps k w Side lt e meets h = kept_given steps k w Side lt e refl h
 kept_next steps k w Derived lt e meets h = kept_derived steps k w lt e meets h
 
-abbrev walk_to : List Step → ℕ → Walk
+abbrev pub walk_to : List Step → ℕ → Walk
 walk_to steps k = walk (length (cnf_clauses steps)) (take k steps)
 
-kept_all : (steps : List Step) (k : ℕ) → IsProof steps → k ≤ length steps
+pub kept_all : (steps : List Step) (k : ℕ) → IsProof steps → k ≤ length steps
     → Kept (cnf_clauses steps) steps k (walk_to steps k)
 kept_all steps zero proof le = kept_start (cnf_clauses steps) steps
 kept_all steps (suc k) proof le =

@@ -2,6 +2,8 @@
 //! `lrat_text` verify.
 #![tactic(auto)]
 
+mod clauses;
 mod laws;
+mod steps;
 
 pub use laws::{cnf_reads_back, log_is_verified, refutation_reads_back};
