@@ -119,18 +119,16 @@ pub line_takes : (steps : StepList) (before after : List (List AtomLit)) (given 
     → LineTakes steps before after clause hints passes
 line_takes steps before after given named clause hints true cut all same is h =
     let there : Checks negated before (spelled_clause clause) named (Ok h.0.0)
-    = subst (λ x. Checks negated before x named (Ok h.0.0)) same h.0.1 in
-    (
+    = subst (λ x. Checks negated before x named (Ok h.0.0)) same h.0.1 in (
       subst (λ x. IsTaken steps.clauses clause x) is (subst (λ x. IsTaken x clause named) (sym cut)
-      (h.0.0, checks_read before clause named (Ok h.0.0) all there)),
+          (h.0.0, checks_read before clause named (Ok h.0.0) all there)),
       h.1 ∙ ap (λ x. before ++ x ∷ []) same,
     )
 line_takes steps before after given named clause hints false cut all same is h =
-    let some = (one_outcome negated same_literal before (spelled_clause clause) named).some in
-    (
+    let some = (one_outcome negated same_literal before (spelled_clause clause) named).some in (
       subst (λ x. IsRejected steps.clauses clause x) is (subst (λ x. IsRejected x clause named) (sym cut)
-      (failed_by before clause named some.0 all some.1
-      (λ g. h.0 (g.0, subst (λ x. Checks negated before x named (Ok g.0)) (sym same) g.1)))),
+          (failed_by before clause named some.0 all some.1
+          (λ g. h.0 (g.0, subst (λ x. Checks negated before x named (Ok g.0)) (sym same) g.1)))),
       h.1,
     )
 
@@ -151,8 +149,7 @@ pub state_failed : (vars count : ℕ) (ids : List ℕ) (before after : List (Lis
     → Fails (steps_in view) (step_line id clause hints) × (check_state vars count ids after ≡ view)
 state_failed vars count ids before after view id clause hints passes viewed h e =
     let t : LineTakes (steps_so count ids before) before after clause hints false
-    = subst (λ b. LineTakes (steps_so count ids before) before after clause hints b) e h in
-    (
+    = subst (λ b. LineTakes (steps_so count ids before) before after clause hints b) e h in (
       subst (λ v. Fails (steps_in v) (step_line id clause hints)) viewed t.0,
       ap (λ cs. check_state vars count ids cs) t.1 ∙ viewed,
     )

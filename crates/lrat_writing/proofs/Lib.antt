@@ -1,5 +1,6 @@
 pub mod CnfBack
 pub mod LratBack
 pub mod PieceLemmas
+pub mod Readable
 pub mod Verifies
 pub mod ZeroLines

@@ -64,7 +64,6 @@ literal_no_d false n small = refl
 
 -- ---- fields up to a zero
 
-
 abbrev AreNoZeros : List (List ℕ) → Type 0
 AreNoZeros [] = Unit {0}
 AreNoZeros (field ∷ fields) = (is_zero field ≡ false) × AreNoZeros fields

@@ -127,7 +127,7 @@ unit_pieces (l ∷ ls) =
     (append-nil (literal_piece (negation l)))
     ∙ ap (λ x. unit_piece l ++ x) (unit_pieces ls)
 
-cnf_long : (steps : List Step)
+pub cnf_long : (steps : List Step)
     → length (cnf_clauses steps) ≡ length (given_clauses steps) + length (last_clause steps)
 cnf_long steps =
     let a = length-map (given_clauses steps ++ map unit_of (last_clause steps)) shifted_clause in

@@ -223,9 +223,10 @@ given_cut steps k kind lt e one =
     ∙ ap (λ x. x ++ behind) (given_more steps k kind lt e ∙ ap (λ x. front ++ x) one) in
     let whole : given_clauses steps ++ units ≡ front ++ s.clause ∷ (behind ++ units)
     = ap (λ x. x ++ units) (all ∙ append_assoc front (s.clause ∷ []) behind)
-    ∙ append_assoc front (s.clause ∷ behind) units in
-    (map shifted_clause (behind ++ units),
-      ap (map shifted_clause) whole ∙ map-append shifted_clause front (s.clause ∷ (behind ++ units)))
+    ∙ append_assoc front (s.clause ∷ behind) units in (
+      map shifted_clause (behind ++ units),
+      ap (map shifted_clause) whole ∙ map-append shifted_clause front (s.clause ∷ (behind ++ units)),
+    )
 
 kept_given : (steps : List Step) (k : ℕ) (w : Walk) (kind : StepKind) → k < length steps
     → (get_or steps k no_step).kind ≡ kind
@@ -316,8 +317,7 @@ derived_passes cnf steps k w clause hints within h check =
                 (subst (λ x. IsImage shifted Every (step_at steps hint).clause x) (sym is)
                 (shift_image (step_at steps hint).clause));
           };
-    } in
-    (
+    } in (
       length hints,
       subst (λ hs. Checks negation new (shifted_clause clause) hs (Ok (length hints)))
           (twice (number_of (range_with_len 1 n)) (id_in w.ids) hints)
@@ -442,25 +442,24 @@ units_go clauses f done (l ∷ ls) first place tail itself units rise h =
     let is : clause_at clauses (f first) ≡ u ∷ [] = ap (clause_at clauses) e ∙ at.is in
     elim (cases_member cases_lit (denials done) (negation u)) [
       | inl false_one ↦ (
-          place,
-          inl (
-            record {
-              named = named;
-              all_false = record {
-                each = λ m c. ⊎_elim (λ (q : u ≡ m). subst (λ x. Contains (denials done) (negation x)) q false_one)
-                    (λ rest. absurd (Contains-nil m rest))
-                    (Contains-cons_cases u [] m (subst (λ x. Contains x m) is c));
-              };
-            },
-            refl,
-          ),
-        )
+        place,
+        inl (
+          record {
+            named = named;
+            all_false = record {
+              each = λ m c. ⊎_elim (λ (q : u ≡ m). subst (λ x. Contains (denials done) (negation x)) q false_one)
+                  (λ rest. absurd (Contains-nil m rest))
+                  (Contains-cons_cases u [] m (subst (λ x. Contains x m) is c));
+            };
+          },
+          refl,
+        ),
+      )
       | inr unset ↦
           let rest = units_go clauses f (done ++ l ∷ []) ls (first + 1) (place + 1) tail itself units.1
           (subst (λ x. LitsRise x) (sym (append_assoc done (l ∷ []) ls)) rise)
           (λ p. subst (λ x. (n : ℕ) × Propagates negation clauses (denials x) p (map f tail) (Ok n))
-          (sym (append_assoc done (l ∷ []) ls)) (h p)) in
-          (
+          (sym (append_assoc done (l ∷ []) ls)) (h p)) in (
             rest.0,
             inr (inl (
               u,
@@ -487,8 +486,7 @@ are_units clauses front back (l ∷ ls) cut =
     let u = negation (shifted l) ∷ [] in
     let rest = map shifted_clause (map unit_of ls) ++ back in
     let long = length-append front (u ∷ []) in
-    let next : length (front ++ u ∷ []) + 1 ≡ length front + 1 + 1 = omega (arith, long) in
-    (
+    let next : length (front ++ u ∷ []) + 1 ≡ length front + 1 + 1 = omega (arith, long) in (
       at_place clauses front rest (length front + 1) u cut refl,
       subst (λ n. AreUnits clauses n ls) next
           (are_units clauses (front ++ u ∷ []) back ls (cut ∙ sym (append_assoc front (u ∷ []) rest))),

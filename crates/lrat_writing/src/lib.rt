@@ -5,5 +5,7 @@
 mod clauses;
 mod laws;
 mod steps;
+mod write;
 
 pub use laws::{cnf_reads_back, log_is_verified, refutation_reads_back};
+pub use write::{Written, write_refutation};

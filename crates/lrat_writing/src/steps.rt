@@ -160,7 +160,9 @@ pub(crate) fn lrat_of(alloc: Global, log: &Log) -> Result<String, Memory>
     let mut lines = 0;
     for index in 0..log.len() {
         let step = StepId::new(index as u32 + 1);
-        push_step(&mut text, log, step, count, &mut ids, &mut given, &mut lines)?;
+        push_step(
+            &mut text, log, step, count, &mut ids, &mut given, &mut lines,
+        )?;
     }
     let last = id_of(ids.as_slice(), StepId::new(log.len() as u32));
     push_final(&mut text, count + lines + 1, first, units, last)?;

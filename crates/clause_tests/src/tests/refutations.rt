@@ -204,6 +204,10 @@ fn names_of_causes(rt: HostRuntime) {
     assert!(rt; NoHeader.name() == "NoHeader" && BadHeader.name() == "BadHeader");
     assert!(rt; BadNumber.name() == "BadNumber" && OutOfRange.name() == "OutOfRange");
     assert!(rt; ClauseCount.name() == "ClauseCount");
-    assert!(rt; LratCause::BadLine.name() == "BadLine" && LratCause::BadNumber.name() == "BadNumber");
-    assert!(rt; LratCause::OutOfRange.name() == "OutOfRange" && LratCause::IdOrder.name() == "IdOrder");
+    assert!(rt;
+        LratCause::BadLine.name() == "BadLine" && LratCause::BadNumber.name() == "BadNumber"
+    );
+    assert!(rt;
+        LratCause::OutOfRange.name() == "OutOfRange" && LratCause::IdOrder.name() == "IdOrder"
+    );
 }
