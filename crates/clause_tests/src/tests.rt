@@ -1,6 +1,7 @@
 //! The tests, a module for each part.
 
 mod deciding;
+mod exports;
 mod learning;
 mod literals;
 mod logs;

@@ -1,4 +1,5 @@
 pub mod CnfBack
+pub mod RoomsAndOrder
 pub mod LratBack
 pub mod PieceLemmas
 pub mod Readable

@@ -3,9 +3,11 @@
 #![tactic(auto)]
 
 mod clauses;
+mod fitting;
 mod laws;
 mod steps;
 mod write;
 
+pub use fitting::can_write;
 pub use laws::{cnf_reads_back, log_is_verified, refutation_reads_back};
 pub use write::{Written, write_refutation};
