@@ -9,7 +9,7 @@ ghost use Rattle.unit_propagate.specs.Search.{IsConflict};
 ghost use Rattle.sat_core.specs.Solving.{IsUnitOf, EndsCore, HasSearched, AddsTo, IsRejected, Keeps, Derives};
 ghost use Rattle.sat_core.specs.Solving.{begun, with_unit};
 ghost use Rattle.sat_core.specs.Turns.{state_of, IsKept, IsAtRest, IsReady, Runs, IsAsserting, IsTurn, HasRun, StopsAt};
-ghost use Rattle.sat_core.specs.Turns.{Resolves, HasRested, Tells};
+ghost use Rattle.sat_core.specs.Turns.{Resolves, NotEnded, HasRested, Tells};
 
 use crate::answer::{Added, Solved, UnaddedClause};
 use crate::decision_loop::{DecisionLoop, bump_all};
@@ -187,6 +187,8 @@ impl Cdcl {
         ensures derives { Derives (state_of self.old) (state_of self.new) }
         ensures goes { IfOk result (Resolves (state_of self.old) (length self.old.logged.asleep.items) self.new
             assumptions.now budget.old budget.new) }
+        ensures goes_on { IfOk result NotEnded }
+        ensures run { OnOk result (Runs assumptions.now self.new) }
         ensures stops { IfErr result (StopsAt (state_of self.old) self.new assumptions.now budget.old budget.new) }
         ensures limit { budget.new.limit ≡ budget.old.limit }
     {
@@ -296,6 +298,7 @@ impl Cdcl {
             Some(conflict) => self.resolve(assumptions, conflict, budget),
             None => {
                 let _form = self.decisions.search.vars();
+                let _log = self.logged.log.len();
                 Resolved::Ended(End::Satisfied)
             }
         }

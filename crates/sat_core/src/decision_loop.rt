@@ -224,6 +224,7 @@ impl DecisionLoop {
     /// Takes back all levels but the first.
     pub(crate) fn back_to_front(&mut self)
         ensures clauses { self.new.search.clauses ≡ self.old.search.clauses }
+        ensures vars { self.new.search.vars ≡ self.old.search.vars }
         ensures resting { (front : List Lit) → IsFronted front self.old.search → IsResting front self.new.search }
     {
         let _form = self.search.vars();

@@ -1,10 +1,9 @@
 //! A propagator that is built anew from some steps of a log.
 
-ghost use Rattle.std.specs.Prelude.{◌≡◌, ℕ, List, length, Contains, IfOk, OnOk};
-ghost use Rattle.plain_lits.specs.declared.lit.Lit.{Lit};
-ghost use Rattle.hinted_log.specs.Logs.{IsStepOf};
-ghost use Rattle.sat_core.specs.Solving.{clause_of};
-ghost use Rattle.sat_core.specs.Sleeping.{Places, AreLoaded};
+ghost use Rattle.std.specs.Prelude.{◌≡◌, ℕ, List, [], ◌∷◌, ◌++◌, Contains, IfOk, OnOk};
+ghost use Rattle.hinted_log.specs.Logs.{Step, IsStepOf};
+ghost use Rattle.sat_core.specs.declared.sleepers.Sleeper.{Sleeper};
+ghost use Rattle.sat_core.specs.Sleeping.{AreSleepers, AreLoaded};
 
 use crate::sleepers::{Sleeper, levels_at, sleeper_of};
 use hinted_log::Log;
@@ -14,24 +13,12 @@ use std::alloc::Global;
 use unit_propagate::Propagator;
 
 /// A propagator with the steps that its clauses are, their numbers of levels, and the steps that sleep.
-
+#[derive(Drop)]
 pub(crate) struct Loaded {
     pub(crate) search: Propagator,
     pub(crate) awake: Vec<StepId>,
     pub(crate) levels: Vec<u32>,
     pub(crate) asleep: Vec<Sleeper>,
-}
-
-// By hand, so that a drop is one call (docs/PROVING.md).
-impl Drop for Loaded {
-    fn drop(self) {
-        let Loaded {
-            search: _,
-            awake: _,
-            levels: _,
-            asleep: _,
-        } = self;
-    }
 }
 
 /// The literals of a clause.
@@ -47,7 +34,10 @@ pub(crate) fn unpacked(alloc: Global, clause: &[PackedLit]) -> Result<Vec<Lit>, 
 
 impl Loaded {
     /// No clause, and the steps that sleep already.
-    fn open(alloc: Global, asleep: &[Sleeper]) -> Result<Loaded, Memory> {
+    fn open(alloc: Global, asleep: &[Sleeper]) -> Result<Loaded, Memory>
+        ensures { IfOk result (λ loaded. (steps : List Step) → AreSleepers steps asleep.now
+            → AreLoaded loaded asleep.now [] steps) }
+    {
         let search = Propagator::open(alloc)?;
         let asleep = Vec::from_slice(alloc, asleep)?;
         Ok(Loaded {
@@ -61,6 +51,8 @@ impl Loaded {
     /// Adds the clause of a step.
     fn admit(&mut self, alloc: Global, log: &Log, step: StepId, levels: u32) -> Result<(), Memory>
         requires { IsStepOf log.now.steps step }
+        ensures { OnOk result ((asleep : List Sleeper) (done : List ℕ) → AreLoaded self.old asleep done log.now.steps
+            → AreLoaded self.new asleep (done ++ step ∷ []) log.now.steps) }
     {
         let lits = unpacked(alloc, log.clause(step))?;
         self.awake.reserve(1)?;
@@ -81,6 +73,8 @@ impl Loaded {
         sleeps: bool,
     ) -> Result<(), Memory>
         requires { IsStepOf log.now.steps step }
+        ensures { OnOk result ((asleep : List Sleeper) (done : List ℕ) → AreLoaded self.old asleep done log.now.steps
+            → AreLoaded self.new asleep (done ++ step ∷ []) log.now.steps) }
     {
         if !sleeps {
             return self.admit(alloc, log, step, levels);
@@ -105,7 +99,9 @@ pub(crate) fn load(
     counts: &[u32],
     bar: u32,
 ) -> Result<Loaded, Memory>
-    requires { (number : ℕ) → Contains awake.now number → IsStepOf log.now.steps number }
+    requires steps { (number : ℕ) → Contains awake.now number → IsStepOf log.now.steps number }
+    requires asleep { AreSleepers log.now.steps asleep.now }
+    ensures { IfOk result (λ loaded. AreLoaded loaded asleep.now awake.now log.now.steps) }
 {
     let mut loaded = Loaded::open(alloc, asleep)?;
     for index in 0..awake.len() {

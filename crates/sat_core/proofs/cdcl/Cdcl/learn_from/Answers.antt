@@ -14,9 +14,9 @@ learn-requires-clause-decided c = has_decided c.args.self.now.front.items c.args
 pub steps_of-requires : goal.steps_of-requires
 steps_of-requires c =
     let s = c.args.self.now.decisions.search in
-    rw c.deref.ensures.value (ids_of s.clauses c.args.self.now.logged.active.items c.args.self.now.logged.log.steps
+    rw c.deref.ensures.value (ids_of s.clauses c.args.self.now.logged.awake.items c.args.self.now.logged.log.steps
     _ _ _
-    c.requires.kept.mirror c.in_ok-learned.ensures.learned.taken c.as_slice.ensures)
+    c.requires.kept.held.shared.mirror c.in_ok-learned.ensures.learned.taken c.as_slice.ensures)
 
 pub bump_all-requires : goal.bump_all-requires
 bump_all-requires c = named_of c.args.self.now.decisions.search.clauses _ _ _ c.in_ok-learned.ensures.learned.taken
@@ -29,12 +29,12 @@ pub take-requires-clause-shown : goal.take-requires-clause-shown
 take-requires-clause-shown c =
     let s = c.args.self.now.decisions.search in
     let settled = has_settled c.args.self.now.front.items s c.args.assumptions.now c.requires.deep c.requires.run in
-    let hints : c.as_slice-3.result.now ≡ map (step_of c.args.self.now.logged.active.items)
+    let hints : c.as_slice-3.result.now ≡ map (step_of c.args.self.now.logged.awake.items)
     c.in_ok-learned.learned.hints =
     rw (c.as_slice-3.ensures, c.in_ok-hints.ensures, c.deref.ensures.value, c.as_slice.ensures) refl in
     unit_learned (state_of c.args.self.now) c.args.self.now.front.items s c.args.assumptions.now
     c.in_ok-learned.learned.clause
-    c.in_ok-learned.learned.hints _ c.requires.kept.mirror c.vars-form.ensures.form c.requires.run
+    c.in_ok-learned.learned.hints _ c.requires.kept.held.shared c.vars-form.ensures.form c.requires.run
     c.in_ok-learned.ensures.learned (c.in_ok-learned.ensures.new settled) hints
 
 pub take-requires-clause-asserting : goal.take-requires-clause-asserting
@@ -53,7 +53,7 @@ pub returns-then-not-spend-clause-stops : goal.returns-then-not-spend-clause-sto
 returns-then-not-spend-clause-stops c =
     let s = c.args.self.now.decisions.search in
     let settled = has_settled c.args.self.now.front.items s c.args.assumptions.now c.requires.deep c.requires.run in
-    let hints : c.in_ok-hints.hints ≡ map (step_of c.args.self.now.logged.active.items) c.in_ok-learned.learned.hints =
+    let hints : c.in_ok-hints.hints ≡ map (step_of c.args.self.now.logged.awake.items) c.in_ok-learned.learned.hints =
     rw (c.in_ok-hints.ensures, c.deref.ensures.value, c.as_slice.ensures) refl in
     let spend = c.if-not-spend.ensures in (
       spend.kept,
@@ -66,7 +66,7 @@ returns-then-not-spend-clause-stops c =
           in_hand = record { clause = c.in_ok-learned.learned.clause; hints = c.in_ok-hints.hints };
           kept = refl;
           further = unit_learned _ c.args.self.now.front.items s c.args.assumptions.now c.in_ok-learned.learned.clause
-              c.in_ok-learned.learned.hints c.in_ok-hints.hints c.requires.kept.mirror c.vars-form.ensures.form
+              c.in_ok-learned.learned.hints c.in_ok-hints.hints c.requires.kept.held.shared c.vars-form.ensures.form
               c.requires.run c.in_ok-learned.ensures.learned (c.in_ok-learned.ensures.new settled) hints;
         },
       ),
@@ -76,7 +76,7 @@ pub returns-clause-goes : goal.returns-clause-goes
 returns-clause-goes c =
     let s = c.args.self.now.decisions.search in
     let settled = has_settled c.args.self.now.front.items s c.args.assumptions.now c.requires.deep c.requires.run in
-    let hints : c.as_slice-3.result.now ≡ map (step_of c.args.self.now.logged.active.items)
+    let hints : c.as_slice-3.result.now ≡ map (step_of c.args.self.now.logged.awake.items)
     c.in_ok-learned.learned.hints =
     rw (c.as_slice-3.ensures, c.in_ok-hints.ensures, c.deref.ensures.value, c.as_slice.ensures) refl in
     record {
@@ -87,7 +87,7 @@ returns-clause-goes c =
         hints = c.as_slice-3.result.now;
         learned = unit_learned (state_of c.args.self.now) c.args.self.now.front.items s c.args.assumptions.now
             c.in_ok-learned.learned.clause
-            c.in_ok-learned.learned.hints _ c.requires.kept.mirror c.vars-form.ensures.form c.requires.run
+            c.in_ok-learned.learned.hints _ c.requires.kept.held.shared c.vars-form.ensures.form c.requires.run
             c.in_ok-learned.ensures.learned (c.in_ok-learned.ensures.new settled) hints;
         new_state = c.in_ok-take.ensures.state;
       };
