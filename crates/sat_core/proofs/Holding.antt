@@ -229,15 +229,15 @@ removed_or : (asleep : List Sleeper) (index : ℕ) (x : Sleeper) → index < len
     → ((d : Sleeper) → get_or asleep index d ≡ x) ⊎ Contains (remove asleep index) x
 removed_or asleep index x within c =
     let at_lt = c.1 in
-    let long = length-remove within in
+    let long = length-remove asleep index within in
     ⊎_elim
     (λ (low : c.0 < index). inr (c.0, omega (arith, low, within, long),
-        get_or-remove_below x c.0 low within ∙ c.2))
+        get_or-remove_below asleep index x c.0 low within ∙ c.2))
     (λ high. ⊎_elim
     (λ (above : index < c.0).
     let same : c.0 - 1 + 1 ≡ c.0 = omega arith in
     inr (c.0 - 1, omega (arith, at_lt, above, long),
-        get_or-remove_above x (c.0 - 1) (omega (arith, above)) within ∙ (ap (λ k. get_or asleep k x) same ∙ c.2)))
+        get_or-remove_above asleep index x (c.0 - 1) (omega (arith, above)) within ∙ (ap (λ k. get_or asleep k x) same ∙ c.2)))
     (λ le.
     let e : index ≡ c.0 = omega (arith, high, le) in
     inl (λ d. ap (λ k. get_or asleep k d) e ∙ (get_or_default asleep c.0 d x at_lt ∙ c.2)))
@@ -248,16 +248,16 @@ removed_from : (asleep : List Sleeper) (index : ℕ) (x : Sleeper) → index < l
     → Contains (remove asleep index) x → Contains asleep x
 removed_from asleep index x within c =
     let at_lt = c.1 in
-    let long = length-remove within in
+    let long = length-remove asleep index within in
     ⊎_elim
-    (λ (low : c.0 < index). (c.0, omega (arith, low, within), sym (get_or-remove_below x c.0 low within) ∙ c.2))
+    (λ (low : c.0 < index). (c.0, omega (arith, low, within), sym (get_or-remove_below asleep index x c.0 low within) ∙ c.2))
     (λ high. (c.0 + 1, omega (arith, at_lt, long),
-        sym (get_or-remove_above x c.0 high within) ∙ c.2))
+        sym (get_or-remove_above asleep index x c.0 high within) ∙ c.2))
     (cases_lt c.0 index)
 
 pub fewer_asleep : (asleep : List Sleeper) (index : ℕ) → index < length asleep
     → length (remove asleep index) < length asleep
-fewer_asleep asleep index within = let long = length-remove within in omega (arith, long)
+fewer_asleep asleep index within = let long = length-remove asleep index within in omega (arith, long)
 
 pub held_woken : (old new : Search) (awake new_awake : List ℕ) (asleep new_asleep : List Sleeper)
     (active : List ℕ) (steps : List Step) (clause : List Lit) (index : ℕ) (x : Sleeper)

@@ -77,7 +77,7 @@ clause_cases clauses clause id named =
     ⊎_elim (λ old. inl (old, clause_before clauses clause id old))
     (λ e. inr (e, clause_last clauses clause id e)) (named_before clauses clause id named)
 
-room_more : (old new : Search) (clause : List Lit) → new.clauses ≡ old.clauses ++ clause ∷ [] → old.vars ≤ new.vars
+pub room_more : (old new : Search) (clause : List Lit) → new.clauses ≡ old.clauses ++ clause ∷ [] → old.vars ≤ new.vars
     → ((l : Lit) → Contains clause l → l.var < new.vars) → HasRoom old → HasRoom new
 room_more old new clause e vars known room = record {
   known = λ id l named c.

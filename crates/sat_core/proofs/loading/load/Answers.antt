@@ -1,0 +1,21 @@
+use Rattle.std.proofs.Common.{rules, ◌≡◌, ℕ, List, [], ◌∷◌, ◌++◌, Contains, IfOk, OnOk, ◌+◌, ◌-◌, ◌*◌, ◌<◌, ◌≤◌, length, ◌/◌, ◌%◌, Bool, true, false, nat_eq, nat_lt, slice_index_or, slice_set, bit_and, bit_or, Fits, w8, w32, w64, Bor, MutBor}
+use Rattle.hinted_log.specs.Logs.{Step, IsStepOf}
+use Rattle.sat_core.specs.declared.sleepers.Sleeper.{Sleeper}
+use Rattle.sat_core.specs.Sleeping.{AreSleepers, AreLoaded}
+use Rattle.sat_core.proofs.loading.load.Goals as goal
+
+-- src/loading.rt:107:5
+pub loop-index-init : goal.loop-index-init
+loop-index-init c = ?
+
+-- src/loading.rt:109:9
+pub place-requires : goal.place-requires
+place-requires c = ?
+
+-- src/loading.rt:107:5
+pub loop-index-preserved : goal.loop-index-preserved
+loop-index-preserved c = ?
+
+-- src/loading.rt:93:1
+pub returns : goal.returns
+returns c = ?

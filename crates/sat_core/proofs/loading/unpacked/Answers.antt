@@ -1,0 +1,17 @@
+use Rattle.std.proofs.Common.{rules, ◌≡◌, ℕ, List, [], ◌∷◌, ◌++◌, Contains, IfOk, OnOk, ◌+◌, ◌-◌, ◌*◌, ◌<◌, ◌≤◌, length, ◌/◌, ◌%◌, Bool, true, false, nat_eq, nat_lt, slice_index_or, slice_set, bit_and, bit_or, Fits, w8, w32, w64, Bor, MutBor}
+use Rattle.hinted_log.specs.Logs.{Step, IsStepOf}
+use Rattle.sat_core.specs.declared.sleepers.Sleeper.{Sleeper}
+use Rattle.sat_core.specs.Sleeping.{AreSleepers, AreLoaded}
+use Rattle.sat_core.proofs.loading.unpacked.Goals as goal
+
+-- src/loading.rt:29:5
+pub loop-packed-init : goal.loop-packed-init
+loop-packed-init c = ?
+
+-- src/loading.rt:29:5
+pub loop-packed-preserved : goal.loop-packed-preserved
+loop-packed-preserved c = ?
+
+-- src/loading.rt:25:1
+pub returns : goal.returns
+returns c = ?

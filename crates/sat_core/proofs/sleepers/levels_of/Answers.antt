@@ -1,0 +1,25 @@
+use Rattle.std.proofs.Common.{rules, ◌≡◌, ◌<◌, length, Contains, IfSome, MatchOption, ℕ, ◌+◌, ◌-◌, ◌*◌, ◌≤◌, ◌/◌, ◌%◌, Bool, true, false, nat_eq, nat_lt, List, [], ◌∷◌, ◌++◌, slice_index_or, slice_set, bit_and, bit_or, Fits, w8, w32, w64, Bor, MutBor}
+use Rattle.std.specs.Bool.{OnTrue, OnFalse}
+use Rattle.plain_lits.specs.declared.lit.Lit.{Lit}
+use Rattle.plain_lits.specs.Literals.{negation}
+use Rattle.hinted_log.specs.Logs.{IsStepOf}
+use Rattle.sat_core.specs.Solving.{clause_of}
+use Rattle.sat_core.specs.Mirrors.{FalsifiesAll}
+use Rattle.sat_core.specs.Sleeping.{AreSleepers, SleepsAs, HasNoSubsumingSleeper}
+use Rattle.sat_core.proofs.sleepers.levels_of.Goals as goal
+
+-- src/sleepers.rt:64:5
+pub loop-lit-init : goal.loop-lit-init
+loop-lit-init c = ?
+
+-- src/sleepers.rt:65:21
+pub position-index-requires : goal.position-index-requires
+position-index-requires c = ?
+
+-- src/sleepers.rt:64:5
+pub loop-lit-preserved : goal.loop-lit-preserved
+loop-lit-preserved c = ?
+
+-- src/sleepers.rt:73:8
+pub overflow_cast-result : goal.overflow_cast-result
+overflow_cast-result c = ?
