@@ -15,8 +15,10 @@ use crate::answer::{Added, Solved, UnaddedClause};
 use crate::decision_loop::{DecisionLoop, bump_all};
 use crate::fronts::{begins_with, has_false, size_of_front};
 use crate::loading::{Loaded, load, unpacked};
-use crate::logged_clauses::{LoggedClauses, derive, record, steps_of, subsuming_step};
-use crate::sleepers::{bar_of, counts_of, levels_of};
+use crate::logged_clauses::{LoggedClauses, derive, push_levels, record, steps_of, subsuming_sleeper};
+use crate::logged_clauses::subsuming_step;
+use crate::pace::levels_of;
+use crate::sleepers::{bar_of, counts_of, sleeper_at};
 use conflict_learn::{Core, Learned, Learner};
 use hinted_log::{Log, LogFault, MAX_STEPS};
 use lists::{Items, Memory};
@@ -88,6 +90,14 @@ fn kept_level(level: usize) -> usize
     level
 }
 
+/// The number of levels of the clause that was learned last.
+fn last_of(levels: &[u32]) -> u32 {
+    match levels {
+        [] => 0,
+        [.., last] => *last,
+    }
+}
+
 /// What the end of a search tells.
 fn solved_of(alloc: Global, search: &Propagator, end: End) -> Result<Solved, Halt>
     ensures { Tells search.now.lits end result }
@@ -140,6 +150,7 @@ impl Cdcl {
         assumptions: &[Lit],
         learned: &Learned,
         hints: &[StepId],
+        levels: u32,
     ) -> Result<(), Memory>
         requires kept { IsKept self.old }
         requires run { Runs assumptions.now self.old }
@@ -154,10 +165,9 @@ impl Cdcl {
         ensures state { OnOk result (state_of self.new ≡ with_unit (state_of self.old) learned.now.clause hints.now) }
     {
         let _before = self.decisions.search.vars();
-        let levels = levels_of(self.alloc, &self.decisions.search, learned.clause.as_slice())?;
         self.logged.active.reserve(1)?;
         self.logged.awake.reserve(1)?;
-        self.logged.levels.push(levels)?;
+        push_levels(&mut self.logged.levels, levels)?;
         let clause = learned.clause.copy(self.alloc)?;
         let step = derive(&mut self.logged.log, clause, hints)?;
         self.decisions.back_to(kept_level(learned.level));
@@ -195,7 +205,14 @@ impl Cdcl {
         let _form = self.decisions.search.vars();
         let learned = self.learner.learn(&self.decisions.search, conflict)?;
         let vars = self.decisions.search.vars();
-        match self.logged.subsuming_sleeper(learned.clause.as_slice(), vars)? {
+        let found = subsuming_sleeper(
+            &self.logged.log,
+            &self.logged.asleep,
+            &mut self.logged.falsified,
+            learned.clause.as_slice(),
+            vars,
+        )?;
+        match found {
             Some(index) => {
                 self.wake(assumptions, index)?;
                 return Ok(Resolved::Woken);
@@ -218,7 +235,12 @@ impl Cdcl {
             &mut self.decisions.order,
             learned.hints.as_slice(),
         );
-        self.take(assumptions, &learned, hints.as_slice())?;
+        let levels = levels_of(
+            self.alloc,
+            &self.decisions.search,
+            learned.clause.as_slice(),
+        )?;
+        self.take(assumptions, &learned, hints.as_slice(), levels)?;
         Ok(Resolved::Learned)
     }
 
@@ -276,7 +298,7 @@ impl Cdcl {
         }
         match self.learn_from(assumptions, conflict, budget) {
             Ok(resolved) => {
-                self.decisions.count_conflict();
+                self.decisions.count_conflict(last_of(self.logged.levels.as_slice()));
                 resolved
             }
             Err(halt) => Resolved::Ended(End::Stopped(halt)),
@@ -361,21 +383,32 @@ impl Cdcl {
     /// Builds the propagator anew with half of the clauses that were learned. Where memory fails, all stays as it is.
     fn load_some(&mut self) -> Result<(), Memory>
         requires rest { IsAtRest self.old }
+        requires front { self.old.front.items ≡ [] }
         ensures rest { IsAtRest self.new }
         ensures state { state_of self.new ≡ state_of self.old }
     {
         let vars = self.decisions.search.vars();
         let log = &self.logged.log;
-        let awake = self.logged.awake.as_slice();
-        let levels = self.logged.levels.as_slice();
-        let bar = bar_of(self.alloc, levels)?;
-        let counts = counts_of(self.alloc, log, awake, levels, bar, vars)?;
-        let asleep = self.logged.asleep.as_slice();
-        let Loaded { search, awake, levels, asleep } =
-            load(self.alloc, log, awake, levels, asleep, counts.as_slice(), bar)?;
-        if search.vars() < vars {
+        let bar = bar_of(self.alloc, &self.logged.levels)?;
+        let counts = counts_of(self.alloc, log, &self.logged.awake, &self.logged.levels, bar, vars)?;
+        let loaded = load(
+            self.alloc,
+            log,
+            &self.logged.awake,
+            &self.logged.levels,
+            &self.logged.asleep,
+            &counts,
+            bar,
+        )?;
+        if loaded.search.vars() < vars {
             return Err(Memory);
         }
+        let Loaded {
+            search,
+            awake,
+            levels,
+            asleep,
+        } = loaded;
         self.decisions.search = search;
         self.logged.awake = awake;
         self.logged.levels = levels;
@@ -389,6 +422,7 @@ impl Cdcl {
         ensures rest { IsAtRest self.new }
         ensures state { state_of self.new ≡ state_of self.old }
         ensures asleep { self.new.logged.asleep.items ≡ self.old.logged.asleep.items }
+        ensures front { self.new.front.items ≡ [] }
     {
         self.decisions.back_to(0);
         self.front.clear();
@@ -402,14 +436,14 @@ impl Cdcl {
         ensures state { state_of self.new ≡ state_of self.old }
         ensures fewer { OnOk result (length self.new.logged.asleep.items < length self.old.logged.asleep.items) }
     {
-        let step = self.logged.asleep[index].step;
-        let lits = unpacked(self.alloc, self.logged.log.clause(step))?;
+        let sleeper = sleeper_at(&self.logged.asleep, index);
+        let lits = unpacked(self.alloc, self.logged.log.clause(sleeper.step))?;
         self.logged.awake.reserve(1)?;
-        self.logged.levels.push(0)?;
+        push_levels(&mut self.logged.levels, 0)?;
         let _form = self.decisions.search.vars();
-        let _ = self.decisions.search.add(lits.as_slice())?;
+        let _ = self.decisions.search.add(&lits)?;
         let _ = self.logged.asleep.remove(index);
-        let _ = self.logged.awake.push(step);
+        let _ = self.logged.awake.push(sleeper.step);
         Ok(())
     }
 
@@ -474,7 +508,7 @@ impl Cdcl {
             Ok(()) => {}
             Err(_) => return Err(LogFault::Memory),
         }
-        match self.logged.levels.push(0) {
+        match push_levels(&mut self.logged.levels, 0) {
             Ok(()) => {}
             Err(_) => return Err(LogFault::Memory),
         }
@@ -508,6 +542,7 @@ impl Cdcl {
         requires plain { (l : Lit) → Contains block.now l → Contains block.now (negation l) → ⊥ }
         ensures rest { IsAtRest self.new }
         ensures state { state_of self.new ≡ state_of self.old }
+        ensures asleep { self.new.logged.asleep.items ≡ self.old.logged.asleep.items }
         ensures one { OnOk result (length self.new.decisions.search.starts ≡ 1) }
         ensures front { OnOk result (self.new.front.items ≡ block.now) }
         ensures lits { OnOk result ((l : Lit) → Contains self.new.decisions.search.lits l → Contains block.now l) }
@@ -529,6 +564,7 @@ impl Cdcl {
         requires within { size ≤ length assumptions.now }
         ensures rest { IsAtRest self.new }
         ensures state { state_of self.new ≡ state_of self.old }
+        ensures asleep { self.new.logged.asleep.items ≡ self.old.logged.asleep.items }
         ensures ready { OnOk result (IsReady assumptions.now self.new) }
     {
         if self.decisions.search.starts().len() == 1
@@ -545,6 +581,7 @@ impl Cdcl {
         requires ready { IsReady assumptions.now self.old }
         ensures rest { IsAtRest self.new }
         ensures state { state_of self.new ≡ state_of self.old }
+        ensures asleep { self.new.logged.asleep.items ≡ self.old.logged.asleep.items }
         ensures ready { OnOk result (IsReady assumptions.now self.new) }
         ensures not_false { OnOk result ((l : Lit) → Contains assumptions.now l
             → Contains self.new.decisions.search.lits (negation l) → ⊥) }
@@ -563,6 +600,7 @@ impl Cdcl {
         requires within { size ≤ length assumptions.now }
         ensures rest { OnErr result (IsAtRest self.new) }
         ensures state { state_of self.new ≡ state_of self.old }
+        ensures asleep { self.new.logged.asleep.items ≡ self.old.logged.asleep.items }
         ensures kept { OnOk result (IsKept self.new) }
         ensures run { OnOk result (Runs assumptions.now self.new) }
         ensures two { OnOk result (length self.new.decisions.search.starts ≡ 2) }
@@ -649,6 +687,7 @@ impl Cdcl {
         ensures limit { budget.new.limit ≡ budget.old.limit }
     {
         self.pending = None;
+        self.tired = 0;
         let vars = self.decisions.search.vars();
         self.decisions.order.make_room(vars)?;
         let size = size_of_front(self.front.as_slice(), assumptions);

@@ -7,6 +7,7 @@ mod decision_loop;
 mod fronts;
 mod loading;
 mod logged_clauses;
+mod pace;
 mod sleepers;
 mod solver;
 

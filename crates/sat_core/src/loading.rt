@@ -5,6 +5,7 @@ ghost use Rattle.hinted_log.specs.Logs.{Step, IsStepOf};
 ghost use Rattle.sat_core.specs.declared.sleepers.Sleeper.{Sleeper};
 ghost use Rattle.sat_core.specs.Sleeping.{AreSleepers, AreLoaded};
 
+use crate::logged_clauses::push_levels;
 use crate::sleepers::{Sleeper, levels_at, sleeper_of};
 use hinted_log::Log;
 use lists::Memory;
@@ -56,8 +57,8 @@ impl Loaded {
     {
         let lits = unpacked(alloc, log.clause(step))?;
         self.awake.reserve(1)?;
-        self.levels.push(levels)?;
-        let _ = self.search.add(lits.as_slice())?;
+        push_levels(&mut self.levels, levels)?;
+        let _ = self.search.add(&lits)?;
         let _ = self.awake.push(step);
         Ok(())
     }

@@ -169,31 +169,29 @@ pub(crate) fn subsuming_step(
     Ok(first_falsified(log, falsified, clause))
 }
 
-impl LoggedClauses {
-    /// The index of a sleeper whose clause has no literal beyond those of a clause, where there is one.
-    pub(crate) fn subsuming_sleeper(&mut self, clause: &[Lit], vars: usize) -> Result<Option<usize>, Memory>
-        requires room { (l : Lit) → Contains clause.now l → l.var < vars }
-        requires plain { IsTautology negation clause.now → ⊥ }
-        requires asleep { AreSleepers self.old.log.steps self.old.asleep.items }
-        ensures log { self.new.log ≡ self.old.log }
-        ensures active { self.new.active.items ≡ self.old.active.items }
-        ensures awake { self.new.awake.items ≡ self.old.awake.items }
-        ensures asleep { self.new.asleep.items ≡ self.old.asleep.items }
-        ensures found { IfOk result (λ found. MatchOption found
-            (HasNoSubsumingSleeper self.old.log.steps self.old.asleep.items clause.now)
-            (λ index. index < length self.old.asleep.items)) }
-    {
-        if self.asleep.is_empty() {
-            return Ok(None);
-        }
-        self.falsified.clear();
-        self.falsified.make_room(vars)?;
-        falsify(&mut self.falsified, clause);
-        Ok(first_falsified_sleeper(
-            &self.log,
-            self.asleep.as_slice(),
-            &self.falsified,
-            clause,
-        ))
-    }
+/// The index of a sleeper whose clause has no literal beyond those of a clause, where there is one. `falsified` is left
+/// with anything.
+pub(crate) fn subsuming_sleeper(
+    log: &Log,
+    asleep: &[Sleeper],
+    falsified: &mut Trail,
+    clause: &[Lit],
+    vars: usize,
+) -> Result<Option<usize>, Memory>
+    requires room { (l : Lit) → Contains clause.now l → l.var < vars }
+    requires plain { IsTautology negation clause.now → ⊥ }
+    requires asleep { AreSleepers log.now.steps asleep.now }
+    ensures { IfOk result (λ found. MatchOption found (HasNoSubsumingSleeper log.now.steps asleep.now clause.now)
+        (λ index. index < length asleep.now)) }
+{
+    falsified.clear();
+    falsified.make_room(vars)?;
+    falsify(falsified, clause);
+    Ok(first_falsified_sleeper(log, asleep, falsified, clause))
+}
+
+/// Notes the number of levels of a clause that is about to come.
+pub(crate) fn push_levels(levels: &mut Vec<u32>, number: u32) -> Result<(), Memory> {
+    levels.push(number)?;
+    Ok(())
 }

@@ -1,12 +1,13 @@
 //! Derived steps that the propagator leaves out for now, and the choice of them.
 
-ghost use Rattle.std.specs.Prelude.{◌≡◌, ◌<◌, length, Contains, IfSome, MatchOption};
-ghost use Rattle.std.specs.Bool.{OnTrue, OnFalse};
+ghost use Rattle.std.specs.Prelude.{◌≡◌, ◌⊎◌, ℕ, ◌<◌, length, slice_index_or, Contains, IfSome, MatchOption, Some};
+ghost use Rattle.std.specs.Bool.{OnFalse};
 ghost use Rattle.plain_lits.specs.declared.lit.Lit.{Lit};
 ghost use Rattle.plain_lits.specs.Literals.{negation};
 ghost use Rattle.hinted_log.specs.Logs.{IsStepOf};
 ghost use Rattle.sat_core.specs.Solving.{clause_of};
 ghost use Rattle.sat_core.specs.Mirrors.{FalsifiesAll};
+ghost use Rattle.sat_core.specs.declared.sleepers.Sleeper.{Sleeper};
 ghost use Rattle.sat_core.specs.Sleeping.{AreSleepers, SleepsAs, HasNoSubsumingSleeper};
 
 use crate::logged_clauses::is_falsified;
@@ -14,13 +15,20 @@ use hinted_log::{Log, StepKind};
 use lists::Memory;
 use plain_lits::{Lit, PackedLit, StepId, Trail, Value};
 use std::alloc::Global;
-use unit_propagate::Propagator;
 
 /// A step that sleeps, and a literal of its clause.
 #[derive(Clone, Copy)]
 pub(crate) struct Sleeper {
     pub(crate) step: StepId,
     pub(crate) key: PackedLit,
+}
+
+/// The sleeper at an index.
+pub(crate) fn sleeper_at(asleep: &[Sleeper], index: usize) -> Sleeper
+    requires { index < length asleep.now }
+    ensures { (d : Sleeper) → slice_index_or asleep.now index d ≡ result }
+{
+    asleep[index]
 }
 
 /// Whether all literals of a sleeper's clause are false. Where its key isn't, the others are not looked at.
@@ -49,28 +57,11 @@ pub(crate) fn first_falsified_sleeper(
         (λ index. index < length asleep.now) }
 {
     for index in 0..asleep.len() {
-        if is_falsified_sleeper(log, trail, asleep[index]) {
+        if is_falsified_sleeper(log, trail, sleeper_at(asleep, index)) {
             return Some(index);
         }
     }
     None
-}
-
-/// On how many levels above the second one the literals of a false clause lie (its literal block distance).
-pub(crate) fn levels_of(alloc: Global, search: &Propagator, clause: &[Lit]) -> Result<u32, Memory>
-    requires { (l : Lit) → Contains clause.now l → Contains search.now.lits (negation l) }
-{
-    let mut levels = Vec::new(alloc);
-    for lit in clause {
-        let index = search.position(!*lit);
-        let level = search.starts().partition_point(|start| *start <= index);
-        if level > 2 {
-            levels.push(level)?;
-        }
-    }
-    levels.sort_unstable();
-    levels.dedup();
-    Ok(levels.len() as u32)
 }
 
 /// Counts how often each literal, by its code, stands in a clause.
@@ -92,18 +83,23 @@ fn count_of(counts: &[u32], packed: PackedLit) -> u32 {
     0
 }
 
+/// Of a literal that was found, if any, and a further one that which was counted less.
+fn rarer(counts: &[u32], found: Option<PackedLit>, packed: PackedLit) -> Option<PackedLit>
+    ensures { IfSome result (λ l. (l ≡ packed) ⊎ (found ≡ Some l)) }
+{
+    match found {
+        Some(other) if count_of(counts, other) <= count_of(counts, packed) => Some(other),
+        _ => Some(packed),
+    }
+}
+
 /// The literal of a clause that was counted least.
 fn rarest(counts: &[u32], clause: &[PackedLit]) -> Option<PackedLit>
     ensures { IfSome result (Contains clause.now) }
 {
     let mut found = None;
-    let mut least = u32::MAX;
     for packed in clause {
-        let count = count_of(counts, *packed);
-        if count < least {
-            least = count;
-            found = Some(*packed);
-        }
+        found = rarer(counts, found, *packed);
     }
     found
 }
