@@ -8,7 +8,9 @@ use Rattle.std.proofs.lemmas.Bool.{cases_lt}
 use Rattle.std.proofs.lemmas.List.{get_or_append_left, get_or_default}
 use Rattle.std.proofs.lemmas.List.Edits.{length-remove, get_or-remove_below, get_or-remove_above}
 use Rattle.std.proofs.lemmas.List.Elements.{Contains-push_cases, Contains-append_left, Contains-push, Contains-get_or}
+use Rattle.lists.proofs.Membership.{Contains-nil}
 use Rattle.plain_lits.specs.declared.lit.Lit.{Lit}
+use Rattle.plain_lits.specs.HintCheck.{IsNamed}
 use Rattle.hinted_log.specs.Logs.{Step, LogState, IsLog, IsStepOf, step_at, derived_step, no_step, log_of}
 use Rattle.hinted_log.specs.declared.step_kind.StepKind.TheVariants.{Derived}
 use Rattle.unit_propagate.specs.Search.{Search, GainsClause}
@@ -295,6 +297,61 @@ held_woken old new awake new_awake asleep new_asleep active steps clause index x
       given = h.given;
       known = λ n l step c. let lt = h.known n l step c in omega (arith, lt, more);
     }))
+
+-- nothing is there yet
+none_named : {L : Type 0} (clauses : List (List L)) (id : ℕ) → clauses ≡ [] → IsNamed clauses id → ⊥
+none_named clauses id e n =
+    let from = n.from_one in
+    let within = n.within in
+    let long = ap length e in
+    omega (arith, from, within, long)
+
+mirror_none : (clauses : List (List Lit)) (awake : List ℕ) (steps : List Step) → clauses ≡ [] → awake ≡ []
+    → IsMirror clauses awake steps
+mirror_none clauses awake steps e e1 = record {
+  long = ap length e1 ∙ sym (ap length e);
+  named = λ id n. absurd (none_named clauses id e n);
+  same = λ id n. absurd (none_named clauses id e n);
+}
+
+room_none : (s : Search) → s.clauses ≡ [] → HasRoom s
+room_none s e = record { known = λ id l n c. absurd (none_named s.clauses id e n) }
+
+pub loaded_none : (loaded : Loaded) (asleep : List Sleeper) (steps : List Step) → loaded.search.clauses ≡ []
+    → loaded.search.lits ≡ [] → loaded.search.starts ≡ [] → loaded.awake.items ≡ [] → loaded.asleep.items ≡ asleep
+    → AreSleepers steps asleep → AreLoaded loaded asleep [] steps
+loaded_none loaded asleep steps clauses lits starts awake same sleepers = record {
+  mirror = mirror_none loaded.search.clauses loaded.awake.items steps clauses awake;
+  sleepers = λ x c. sleepers x (subst (λ xs. Contains xs x) same c);
+  awake_of = λ n c. subst (λ xs. Contains xs n) awake c;
+  asleep_of = λ x c. inl (subst (λ xs. Contains xs x) same c);
+  kept = λ x c. subst (λ xs. Contains xs x) (sym same) c;
+  covered = λ n c. absurd (Contains-nil n c);
+  none = lits;
+  starts = starts;
+  room = room_none loaded.search clauses;
+}
+
+pub held_none : (s : Search) (awake : List ℕ) (asleep : List Sleeper) (active : List ℕ) (steps : List Step)
+    → s.clauses ≡ [] → awake ≡ [] → asleep ≡ [] → active ≡ [] → steps ≡ [] → IsHeld s awake asleep active steps
+held_none s awake asleep active steps clauses e1 e2 e3 e4 =
+    let none : (number : ℕ) → IsStepOf steps number → ⊥ = λ number step.
+    let from = step.from_one in
+    let within = step.within in
+    let long = ap length e4 in
+    omega (arith, from, within, long) in
+    record {
+      shared = record {
+        mirror = mirror_none s.clauses awake steps clauses e1;
+        sleepers = λ x c. absurd (Contains-nil x (subst (λ xs. Contains xs x) e2 c));
+        awake_of = λ n c. absurd (Contains-nil n (subst (λ xs. Contains xs n) e1 c));
+        asleep_of = λ x c. absurd (Contains-nil x (subst (λ xs. Contains xs x) e2 c));
+        covered = λ n c. absurd (Contains-nil n (subst (λ xs. Contains xs n) e3 c));
+      };
+      rises = λ k lt. let long = ap length e3 in absurd (omega (arith, lt, long));
+      given = λ n step ne. absurd (none n step);
+      known = λ n l step c. absurd (none n step);
+    }
 
 -- a propagator is loaded
 pub loaded_awake : (old new : Loaded) (asleep : List Sleeper) (done : List ℕ) (steps : List Step) (number : ℕ)

@@ -1,17 +1,18 @@
-use Rattle.std.proofs.Common.{rules, ◌≡◌, ℕ, List, [], ◌∷◌, ◌++◌, Contains, IfOk, OnOk, ◌+◌, ◌-◌, ◌*◌, ◌<◌, ◌≤◌, length, ◌/◌, ◌%◌, Bool, true, false, nat_eq, nat_lt, slice_index_or, slice_set, bit_and, bit_or, Fits, w8, w32, w64, Bor, MutBor}
-use Rattle.hinted_log.specs.Logs.{Step, IsStepOf}
-use Rattle.sat_core.specs.declared.sleepers.Sleeper.{Sleeper}
-use Rattle.sat_core.specs.Sleeping.{AreSleepers, AreLoaded}
+use Rattle.std.proofs.Common.{◌∙◌, arith, rules}
+use Rattle.std.proofs.lemmas.List.{take_all}
+use Rattle.sat_core.proofs.Serving.{lits_more}
 use Rattle.sat_core.proofs.loading.unpacked.Goals as goal
 
--- src/loading.rt:29:5
 pub loop-packed-init : goal.loop-packed-init
-loop-packed-init c = ?
+loop-packed-init c = search rules
 
--- src/loading.rt:29:5
 pub loop-packed-preserved : goal.loop-packed-preserved
-loop-packed-preserved c = ?
+loop-packed-preserved c =
+    lits_more c.args.clause.now c.loop-packed.lits.items _ c.loop-packed.packed-index c.lit.result
+    c.packed-item.result c.loop-packed-test.true c.loop-packed.invariant c.in_ok-push.ensures.items
+    (c.lit.ensures.lit ∙ c.packed-item.is)
 
--- src/loading.rt:25:1
 pub returns : goal.returns
-returns c = ?
+returns c =
+    let past = c.loop-packed-test.false in
+    c.loop-packed.invariant ∙ take_all c.loop-packed.packed-index c.args.clause.now (omega (arith, past))

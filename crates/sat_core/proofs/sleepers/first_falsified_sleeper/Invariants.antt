@@ -1,12 +1,9 @@
-use Rattle.std.proofs.Common.{◌≡◌, ◌<◌, length, Contains, IfSome, MatchOption, ℕ, ◌+◌, ◌-◌, ◌*◌, ◌≤◌}
-use Rattle.std.specs.Bool.{OnTrue, OnFalse}
-use Rattle.plain_lits.specs.declared.lit.Lit.{Lit}
-use Rattle.plain_lits.specs.Literals.{negation}
-use Rattle.hinted_log.specs.Logs.{IsStepOf}
-use Rattle.sat_core.specs.Solving.{clause_of}
-use Rattle.sat_core.specs.Mirrors.{FalsifiesAll}
-use Rattle.sat_core.specs.Sleeping.{AreSleepers, SleepsAs, HasNoSubsumingSleeper}
+use Rattle.std.proofs.Common.{take}
+use Rattle.std.specs.Prelude.{Contains}
+use Rattle.sat_core.specs.Solving.{Holds, clause_of}
+use Rattle.sat_core.specs.declared.sleepers.Sleeper.{Sleeper}
 use Rattle.sat_core.proofs.sleepers.first_falsified_sleeper.Given as goal
 
 abbrev pub invariant-loop-index : goal.invariant-loop-index
-invariant-loop-index l = ?
+invariant-loop-index l =
+    (x : Sleeper) → Contains (take l.index l.asleep) x → Holds l.clause (clause_of l.log.steps x.step) → ⊥

@@ -1,13 +1,14 @@
-use Rattle.std.proofs.Common.{rules, ◌≡◌, ◌<◌, length, Contains, IfSome, MatchOption, ℕ, ◌+◌, ◌-◌, ◌*◌, ◌≤◌, ◌/◌, ◌%◌, Bool, true, false, nat_eq, nat_lt, List, [], ◌∷◌, ◌++◌, slice_index_or, slice_set, bit_and, bit_or, Fits, w8, w32, w64, Bor, MutBor}
-use Rattle.std.specs.Bool.{OnTrue, OnFalse}
+use Rattle.std.proofs.Common.{List, subst}
+use Rattle.std.specs.Prelude.{Contains}
+use Rattle.std.specs.Bool.{OnFalse}
 use Rattle.plain_lits.specs.declared.lit.Lit.{Lit}
 use Rattle.plain_lits.specs.Literals.{negation}
-use Rattle.hinted_log.specs.Logs.{IsStepOf}
-use Rattle.sat_core.specs.Solving.{clause_of}
-use Rattle.sat_core.specs.Mirrors.{FalsifiesAll}
-use Rattle.sat_core.specs.Sleeping.{AreSleepers, SleepsAs, HasNoSubsumingSleeper}
 use Rattle.sat_core.proofs.sleepers.is_falsified_sleeper.Goals as goal
 
--- src/sleepers.rt:27:1
 pub returns-in-False : goal.returns-in-False
-returns-in-False c = ?
+returns-in-False c =
+    let lits = c.args.trail.now.lits in
+    subst
+    (λ (part : List Lit). OnFalse c.is_falsified.result ((l : Lit) × Contains part l ×
+    (Contains lits (negation l) → ⊥)))
+    c.clause.ensures.clause c.is_falsified.ensures.free

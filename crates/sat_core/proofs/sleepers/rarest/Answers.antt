@@ -1,21 +1,15 @@
-use Rattle.std.proofs.Common.{rules, ◌≡◌, ◌<◌, length, Contains, IfSome, MatchOption, ℕ, ◌+◌, ◌-◌, ◌*◌, ◌≤◌, ◌/◌, ◌%◌, Bool, true, false, nat_eq, nat_lt, List, [], ◌∷◌, ◌++◌, slice_index_or, slice_set, bit_and, bit_or, Fits, w8, w32, w64, Bor, MutBor}
-use Rattle.std.specs.Bool.{OnTrue, OnFalse}
-use Rattle.plain_lits.specs.declared.lit.Lit.{Lit}
-use Rattle.plain_lits.specs.Literals.{negation}
-use Rattle.hinted_log.specs.Logs.{IsStepOf}
-use Rattle.sat_core.specs.Solving.{clause_of}
-use Rattle.sat_core.specs.Mirrors.{FalsifiesAll}
-use Rattle.sat_core.specs.Sleeping.{AreSleepers, SleepsAs, HasNoSubsumingSleeper}
+use Rattle.std.proofs.Common.{◌∙◌, get_or, sym, subst}
+use Rattle.std.specs.Prelude.{Contains}
+use Rattle.std.proofs.lemmas.List.Elements.{Contains-get_or}
+use Rattle.sat_core.proofs.Serving.{rarer_kept}
 use Rattle.sat_core.proofs.sleepers.rarest.Goals as goal
 
--- src/sleepers.rt:101:5
 pub loop-packed-init : goal.loop-packed-init
-loop-packed-init c = ?
+loop-packed-init c = tt
 
--- src/sleepers.rt:101:5
 pub loop-packed-preserved : goal.loop-packed-preserved
-loop-packed-preserved c = ?
-
--- src/sleepers.rt:96:1
-pub returns : goal.returns
-returns c = ?
+loop-packed-preserved c =
+    let i = c.loop-packed.packed-index in
+    rarer_kept c.args.clause.now c.loop-packed.found c.rarer.result c.packed-item.result c.loop-packed.invariant
+    (subst (Contains c.args.clause.now) (sym c.packed-item.is)
+    (Contains-get_or c.args.clause.now i c.packed-item.result c.loop-packed-test.true)) c.rarer.ensures

@@ -1,12 +1,5 @@
-use Rattle.std.proofs.Common.{◌≡◌, ◌<◌, length, Contains, IfSome, MatchOption, ℕ, ◌+◌, ◌-◌, ◌*◌, ◌≤◌}
-use Rattle.std.specs.Bool.{OnTrue, OnFalse}
-use Rattle.plain_lits.specs.declared.lit.Lit.{Lit}
-use Rattle.plain_lits.specs.Literals.{negation}
-use Rattle.hinted_log.specs.Logs.{IsStepOf}
-use Rattle.sat_core.specs.Solving.{clause_of}
-use Rattle.sat_core.specs.Mirrors.{FalsifiesAll}
-use Rattle.sat_core.specs.Sleeping.{AreSleepers, SleepsAs, HasNoSubsumingSleeper}
+use Rattle.std.specs.Prelude.{Contains, IfSome}
 use Rattle.sat_core.proofs.sleepers.rarest.Given as goal
 
 abbrev pub invariant-loop-packed : goal.invariant-loop-packed
-invariant-loop-packed l = ?
+invariant-loop-packed l = IfSome l.found (Contains l.clause)

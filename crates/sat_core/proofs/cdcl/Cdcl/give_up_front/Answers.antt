@@ -1,12 +1,12 @@
-use Rattle.std.proofs.Common.{rules, ◌≡◌, ◌≢◌, ◌↔◌, ℕ, ◌<◌, ◌≤◌, [], length, Contains, IfOk, IfSome, OnOk, OnErr, IfErr, Ok, None, ◌+◌, ◌-◌, ◌*◌, ◌/◌, ◌%◌, Bool, true, false, nat_eq, nat_lt, List, ◌∷◌, ◌++◌, slice_index_or, slice_set, bit_and, bit_or, Fits, w8, w32, w64, Bor, MutBor}
-use Rattle.plain_lits.specs.declared.lit.Lit.{Lit}
-use Rattle.plain_lits.specs.Literals.{negation}
-use Rattle.hinted_log.specs.declared.log.TheConstants.{MAX_STEPS}
-use Rattle.unit_propagate.specs.Search.{IsConflict}
-use Rattle.sat_core.specs.Solving.{IsUnitOf, EndsCore, HasSearched, AddsTo, IsRejected, Keeps, Derives, begun, with_unit}
-use Rattle.sat_core.specs.Turns.{state_of, IsKept, IsAtRest, IsReady, Runs, IsAsserting, IsTurn, HasRun, StopsAt, Resolves, NotEnded, HasRested, Tells}
+use Rattle.std.proofs.Common.{sym, subst}
+use Rattle.sat_core.specs.Runs.{IsResting}
+use Rattle.sat_core.proofs.Running.{resting_none}
+use Rattle.sat_core.proofs.Holding.{held_equal}
 use Rattle.sat_core.proofs.cdcl.Cdcl.give_up_front.Goals as goal
 
--- src/cdcl.rt:387:5
 pub returns-clause-rest : goal.returns-clause-rest
-returns-clause-rest c = ?
+returns-clause-rest c = record {
+  held = held_equal _ _ _ _ _ _ c.back_to.ensures.clauses c.back_to.ensures.vars c.requires.kept.held;
+  resting = subst (λ xs. IsResting xs c.back_to.new.self.search) (sym c.clear.ensures.items)
+      (resting_none _ _ _ c.requires.kept.fronted c.back_to.ensures);
+}

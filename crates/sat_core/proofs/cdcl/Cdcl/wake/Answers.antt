@@ -1,16 +1,16 @@
-use Rattle.std.proofs.Common.{rules, ◌≡◌, ◌≢◌, ◌↔◌, ℕ, ◌<◌, ◌≤◌, [], length, Contains, IfOk, IfSome, OnOk, OnErr, IfErr, Ok, None, ◌+◌, ◌-◌, ◌*◌, ◌/◌, ◌%◌, Bool, true, false, nat_eq, nat_lt, List, ◌∷◌, ◌++◌, slice_index_or, slice_set, bit_and, bit_or, Fits, w8, w32, w64, Bor, MutBor}
-use Rattle.plain_lits.specs.declared.lit.Lit.{Lit}
-use Rattle.plain_lits.specs.Literals.{negation}
-use Rattle.hinted_log.specs.declared.log.TheConstants.{MAX_STEPS}
-use Rattle.unit_propagate.specs.Search.{IsConflict}
-use Rattle.sat_core.specs.Solving.{IsUnitOf, EndsCore, HasSearched, AddsTo, IsRejected, Keeps, Derives, begun, with_unit}
-use Rattle.sat_core.specs.Turns.{state_of, IsKept, IsAtRest, IsReady, Runs, IsAsserting, IsTurn, HasRun, StopsAt, Resolves, NotEnded, HasRested, Tells}
+use Rattle.std.proofs.Common.{length, ap, arith}
+use Rattle.sat_core.proofs.Fronting.{on_ok}
+use Rattle.sat_core.proofs.Running.{plain_assumptions}
 use Rattle.sat_core.proofs.cdcl.Cdcl.wake.Goals as goal
 
--- src/cdcl.rt:430:9
 pub begin-requires-clause-plain : goal.begin-requires-clause-plain
-begin-requires-clause-plain c = ?
+begin-requires-clause-plain c =
+    plain_assumptions c.args.self.now.front.items c.args.self.now.decisions.search c.args.assumptions.now
+    c.vars-form.ensures.form c.requires.run
 
--- src/cdcl.rt:417:5
 pub returns-clause-fewer : goal.returns-clause-fewer
-returns-clause-fewer c = ?
+returns-clause-fewer c =
+    let lt = c.in_ok-rouse.ensures.fewer in
+    let a = ap length c.begin.ensures.asleep in
+    let b = ap length c.give_up_front.ensures.asleep in
+    on_ok c.begin.result _ (omega (arith, lt, a, b))

@@ -1,9 +1,9 @@
-use Rattle.std.proofs.Common.{rules, ◌≡◌, ℕ, List, [], ◌∷◌, ◌++◌, Contains, IfOk, OnOk, ◌+◌, ◌-◌, ◌*◌, ◌<◌, ◌≤◌, length, ◌/◌, ◌%◌, Bool, true, false, nat_eq, nat_lt, slice_index_or, slice_set, bit_and, bit_or, Fits, w8, w32, w64, Bor, MutBor}
-use Rattle.hinted_log.specs.Logs.{Step, IsStepOf}
-use Rattle.sat_core.specs.declared.sleepers.Sleeper.{Sleeper}
-use Rattle.sat_core.specs.Sleeping.{AreSleepers, AreLoaded}
+use Rattle.std.proofs.Common.{◌≡◌, ◌++◌, ◌∷◌, [], ◌∙◌, refl, rules}
+use Rattle.sat_core.proofs.Holding.{loaded_awake}
 use Rattle.sat_core.proofs.loading.Loaded.admit.Goals as goal
 
--- src/loading.rt:52:5
 pub returns : goal.returns
-returns c = ?
+returns c = λ asleep done h.
+    let pushed : c.push.new.self.items ≡ c.args.self.now.awake.items ++ c.args.step ∷ [] = search rules in
+    loaded_awake c.args.self.now _ asleep done c.args.log.now.steps c.args.step _ _ c.requires
+    (c.deref.ensures.value ∙ (c.in_ok-lits.ensures ∙ c.clause.ensures.clause)) c.in_ok-add.ensures.ok pushed refl h

@@ -1,9 +1,8 @@
-use Rattle.std.proofs.Common.{rules, ◌≡◌, ℕ, List, [], ◌∷◌, ◌++◌, Contains, IfOk, OnOk, ◌+◌, ◌-◌, ◌*◌, ◌<◌, ◌≤◌, length, ◌/◌, ◌%◌, Bool, true, false, nat_eq, nat_lt, slice_index_or, slice_set, bit_and, bit_or, Fits, w8, w32, w64, Bor, MutBor}
-use Rattle.hinted_log.specs.Logs.{Step, IsStepOf}
-use Rattle.sat_core.specs.declared.sleepers.Sleeper.{Sleeper}
-use Rattle.sat_core.specs.Sleeping.{AreSleepers, AreLoaded}
+use Rattle.std.proofs.Common.{◌≡◌, [], rules}
+use Rattle.sat_core.proofs.Holding.{loaded_none}
 use Rattle.sat_core.proofs.loading.Loaded.open.Goals as goal
 
--- src/loading.rt:37:5
 pub returns : goal.returns
-returns c = ?
+returns c = λ steps sleepers.
+    loaded_none _ c.args.asleep.now steps c.in_ok-search.ensures.clauses c.in_ok-search.ensures.lits
+    c.in_ok-search.ensures.starts (search rules) c.in_ok-asleep.ensures.items sleepers

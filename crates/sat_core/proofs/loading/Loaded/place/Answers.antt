@@ -1,9 +1,8 @@
-use Rattle.std.proofs.Common.{rules, ◌≡◌, ℕ, List, [], ◌∷◌, ◌++◌, Contains, IfOk, OnOk, ◌+◌, ◌-◌, ◌*◌, ◌<◌, ◌≤◌, length, ◌/◌, ◌%◌, Bool, true, false, nat_eq, nat_lt, slice_index_or, slice_set, bit_and, bit_or, Fits, w8, w32, w64, Bor, MutBor}
-use Rattle.hinted_log.specs.Logs.{Step, IsStepOf}
-use Rattle.sat_core.specs.declared.sleepers.Sleeper.{Sleeper}
-use Rattle.sat_core.specs.Sleeping.{AreSleepers, AreLoaded}
+use Rattle.std.proofs.Common.{refl}
+use Rattle.sat_core.proofs.Holding.{loaded_asleep}
 use Rattle.sat_core.proofs.loading.Loaded.place.Goals as goal
 
--- src/loading.rt:66:5
 pub returns-in_ok-push-in-Some : goal.returns-in_ok-push-in-Some
-returns-in_ok-push-in-Some c = ?
+returns-in_ok-push-in-Some c = λ asleep done h.
+    loaded_asleep c.args.self.now _ asleep done c.args.log.now.steps c.args.step c.in-Some.sleeper
+    (rw c.in-Some.is at c.sleeper_of.ensures) refl refl c.in_ok-push.ensures.items h
