@@ -314,7 +314,7 @@ mirror_none clauses awake steps e e1 = record {
   same = λ id n. absurd (none_named clauses id e n);
 }
 
-room_none : (s : Search) → s.clauses ≡ [] → HasRoom s
+pub room_none : (s : Search) → s.clauses ≡ [] → HasRoom s
 room_none s e = record { known = λ id l n c. absurd (none_named s.clauses id e n) }
 
 pub loaded_none : (loaded : Loaded) (asleep : List Sleeper) (steps : List Step) → loaded.search.clauses ≡ []
