@@ -20,7 +20,7 @@ loop-index-preserved c =
     let i = c.loop-index.index in
     let is = get_or_read c.args.awake.now i _ c.loop-index-test.true c.index-awake-index.is 0 in
     let done = c.in_ok-place.ensures c.args.asleep.now (take i c.args.awake.now) c.loop-index.invariant in
-    subst (λ xs. AreLoaded c.in_ok-place.new.self c.args.asleep.now xs c.args.log.now.steps)
+    subst (λ xs. AreLoaded c.place.new.self c.args.asleep.now xs c.args.log.now.steps)
     (ap (λ n. take i c.args.awake.now ++ n ∷ []) is ∙ sym (take_more c.args.awake.now i 0 c.loop-index-test.true)) done
 
 pub returns : goal.returns
