@@ -8,10 +8,13 @@ _argue() {
         check) options="-p -a -f -r -c" ;;
         live) options="-f -s -b -c" ;;
         bench) options="-n -x" ;;
+        names) options="-p -k -a -f -b -c" ;;
+        af) options="-k -f" ;;
         *) options="-p -a -f -b -c" ;;
     esac
     case $before in
         -p) COMPREPLY=($(compgen -W "$tasks" -- "$word")) ;;
+        -k) COMPREPLY=($(compgen -W "apx tgf" -- "$word")) ;;
         -f | -r | -s | -c)
             local IFS=$'\n'
             compopt -o filenames 2>/dev/null
@@ -19,7 +22,7 @@ _argue() {
             ;;
         -a | -b | -n | -x) ;;
         *)
-            [ "$COMP_CWORD" -ne 1 ] || options="$options check live bench --problems --help --version"
+            [ "$COMP_CWORD" -ne 1 ] || options="$options check live bench names af --problems --help --version"
             COMPREPLY=($(compgen -W "$options" -- "$word"))
             ;;
     esac

@@ -33,7 +33,7 @@ use Rattle.argue_commands.specs.declared.checking.Checked.{Checked}
 use Rattle.edit_rules.specs.Kinds.{framework_of}
 use Rattle.argue_commands.specs.declared.ended.FaultCause.TheVariants as cause
 use Rattle.argue_commands.specs.declared.ended.Limit.TheVariants as limit
-use Rattle.argue_commands.specs.declared.ended.Refusal.TheVariants.{Line, Query}
+use Rattle.argue_commands.specs.declared.ended.Refusal.TheVariants.{Line, Query, UnknownName}
 use Rattle.argue_commands.specs.declared.ended.Status.{Status}
 use Rattle.argue_commands.specs.declared.ended.Status.TheVariants.{Done, Usage, InputRefused, ReadFault}
 use Rattle.argue_commands.specs.declared.ended.Status.TheVariants.{WriteFault, WantOfMemory, Unknown, Limit}
@@ -86,6 +86,7 @@ still_stops : (h : List ℕ → KnownFile) (S S' : List ℕ → Type 0) (c n : R
 still_stops h S S' c n one (InputRefused (Line of line cause)) still stops =
     (stops.0, record { bytes = stops.1.bytes; has = stops.1.has; first = stops.1.first })
 still_stops h S S' c n one (InputRefused (Query fault)) still stops = absurd stops
+still_stops h S S' c n one (InputRefused UnknownName) still stops = absurd stops
 still_stops h S S' c n one (ReadFault of) still stops =
     (stops.0, record { counted = stops.1.counted; unserved = λ served. stops.1.unserved (still one.file served) })
 still_stops h S S' c n one (Limit limit.Input) still stops = stops
@@ -113,6 +114,7 @@ framework_sound bytes f reads line (cause.Framework c) first = ReadsAs-faultless
 framework_sound bytes f reads line (cause.Script c) first = first
 framework_sound bytes f reads line (cause.Answer c) first = first
 framework_sound bytes f reads line (cause.Certificate c) first = first
+framework_sound bytes f reads line (cause.Name c) first = first
 
 pub answer_sound : (bytes : List ℕ) (a : Answer) → AnswerReadsAs (filled_fields bytes) a → IsSoundIn role.Answer bytes
 answer_sound bytes a reads line (cause.Answer c) first =
@@ -120,6 +122,7 @@ answer_sound bytes a reads line (cause.Answer c) first =
 answer_sound bytes a reads line (cause.Framework c) first = first
 answer_sound bytes a reads line (cause.Script c) first = first
 answer_sound bytes a reads line (cause.Certificate c) first = first
+answer_sound bytes a reads line (cause.Name c) first = first
 
 pub certificate_sound : (bytes : List ℕ) (k : Certificate) → CertReadsAs bytes (Ok k) → IsSoundIn role.Certificate bytes
 certificate_sound bytes k reads line (cause.Certificate c) first =
@@ -128,6 +131,7 @@ certificate_sound bytes k reads line (cause.Certificate c) first =
 certificate_sound bytes k reads line (cause.Framework c) first = first
 certificate_sound bytes k reads line (cause.Script c) first = first
 certificate_sound bytes k reads line (cause.Answer c) first = first
+certificate_sound bytes k reads line (cause.Name c) first = first
 
 -- a fault of the framework is the first of all
 pub framework_fault : (bytes : CheckBytes) (f : FrameworkFault)
@@ -196,6 +200,7 @@ text_stops found texts bytes (InputRefused (Line of line c)) has (inr (inr third
       ),
     ))
 text_stops found texts bytes (InputRefused (Query fault)) has is = absurd is
+text_stops found texts bytes (InputRefused UnknownName) has is = absurd is
 text_stops found texts bytes WantOfMemory has is = inr refl
 text_stops found texts bytes Unknown has is = absurd is
 text_stops found texts bytes Done has is = absurd is

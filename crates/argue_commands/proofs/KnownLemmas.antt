@@ -4,7 +4,8 @@ use Rattle.argue_outside.specs.Outside.{HoldsWhole, IsLonger, KnownFile}
 use Rattle.argue_outside.specs.declared.Role.TheVariants.{Framework}
 use Rattle.framework_text.specs.FrameworkText.{IsFaulty, IsReadable, ReadsAs}
 use Rattle.framework_text.proofs.Readings.{ReadsAs-faultless}
-use Rattle.argue_commands.specs.Inputs.{HasBytes, HasFirstFault, Input, IsFirstFaultIn, IsFrameworkOf, Reading}
+use Rattle.argue_commands.specs.Inputs.{HasBytes, HasFirstFault, Input, IsFirstFaultIn, IsFirstFaultOf, IsFrameworkOf}
+use Rattle.argue_commands.specs.Inputs.{Reading}
 use Rattle.semantics.specs.Frameworks.{Framework as AnyFramework}
 use Rattle.argue_commands.specs.declared.ended.FaultCause.{FaultCause}
 use Rattle.argue_commands.specs.declared.ended.FaultCause.TheVariants as cause
@@ -36,15 +37,16 @@ readable_sound bytes line (cause.Framework c) reads first =
 readable_sound bytes line (cause.Script c) reads first = first
 readable_sound bytes line (cause.Answer c) reads first = first
 readable_sound bytes line (cause.Certificate c) reads first = first
+readable_sound bytes line (cause.Name c) reads first = first
 
 -- and no fault
 pub readable_or_faulty : (bytes : List ℕ) → IsReadable bytes → ¬ IsFaulty bytes
 readable_or_faulty bytes reads faulty = ReadsAs-faultless bytes reads.0 reads.1 faulty.0 faulty.1 faulty.2
 
 pub first_at : (found : Reading) (one : Input) (bytes : List ℕ) (line : ℕ) (c : FaultCause)
-    → found.holds one.file ≡ Some (Some bytes) → HasFirstFault found one line c → IsFirstFaultIn one.role bytes line c
+    → found.holds one.file ≡ Some (Some bytes) → HasFirstFault found one line c → IsFirstFaultOf one bytes line c
 first_at found one bytes line c is h =
-    subst (λ bs. IsFirstFaultIn one.role bs line c) (bytes_at (found.holds one.file) bytes h.bytes is h.has) h.first
+    subst (λ bs. IsFirstFaultOf one bs line c) (bytes_at (found.holds one.file) bytes h.bytes is h.has) h.first
 
 pub framework_reads : (known : KnownFile) (bytes : List ℕ) (f : AnyFramework) → known ≡ Some (Some bytes) →
     IsFrameworkOf known f

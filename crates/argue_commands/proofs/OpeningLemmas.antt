@@ -17,7 +17,7 @@ use Rattle.script_text.proofs.FirstFaults.{script_is_faultless}
 use Rattle.argue_commands.specs.Inputs.{Input, IsRead, IsSoundIn, Reading, StopsReading, input, status_of_fault}
 use Rattle.argue_commands.specs.Opening.{HasLiveBytes, IsLiveFault, IsOpened, OpensFiles, live_inputs, script_status}
 use Rattle.argue_commands.specs.declared.ended.FaultCause.TheVariants as cause
-use Rattle.argue_commands.specs.declared.ended.Refusal.TheVariants.{Line, Query}
+use Rattle.argue_commands.specs.declared.ended.Refusal.TheVariants.{Line, Query, UnknownName}
 use Rattle.argue_commands.specs.declared.ended.Status.{Status}
 use Rattle.argue_commands.specs.declared.ended.Status.TheVariants.{Done, Usage, InputRefused, ReadFault}
 use Rattle.argue_commands.specs.declared.ended.Status.TheVariants.{WriteFault, WantOfMemory, Unknown, Limit}
@@ -34,6 +34,7 @@ script_sound bytes s reads line (cause.Script c) first =
 script_sound bytes s reads line (cause.Framework c) first = first
 script_sound bytes s reads line (cause.Answer c) first = first
 script_sound bytes s reads line (cause.Certificate c) first = first
+script_sound bytes s reads line (cause.Name c) first = first
 
 -- a fault of the framework is the first of all
 pub framework_fault_live : (bytes : LiveBytes) (f : FrameworkFault)
@@ -72,6 +73,7 @@ live_fault_stops found texts bytes (InputRefused (Line of line c)) has (inr seco
       inl ((second.0, record { bytes = bytes.script; has = has.script; first = second.2 }), none_behind found),
     ))
 live_fault_stops found texts bytes (InputRefused (Query fault)) has is = absurd is
+live_fault_stops found texts bytes (InputRefused UnknownName) has is = absurd is
 live_fault_stops found texts bytes WantOfMemory has is = inr refl
 live_fault_stops found texts bytes Unknown has is = absurd is
 live_fault_stops found texts bytes Done has is = absurd is

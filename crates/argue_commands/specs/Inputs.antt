@@ -1,5 +1,7 @@
 -- The inputs of a run, and how one of them ends it.
-use Rattle.std.specs.Prelude.{◌≡◌, ℕ, ◌≤◌, ◌⊎◌, List, [], ◌∷◌, length, Contains, Err}
+use Rattle.std.specs.Prelude.{◌≡◌, ℕ, ◌≤◌, ◌⊎◌, List, [], ◌∷◌, length, Contains, Err, Option, None, Some}
+use Rattle.apx_tgf.specs.Faults.{IsFirstFault as IsFirstNameFault}
+use Rattle.apx_tgf.specs.declared.format.NameFormat.{NameFormat}
 use Rattle.argue_outside.specs.Outside.{FaultCounted, HoldsWhole, IsLonger, KnownFile}
 use Rattle.argue_outside.specs.declared.Files.{Ghosts as FilesWords}
 use Rattle.argue_outside.specs.declared.Role.{Role}
@@ -43,9 +45,14 @@ reading files old new = record {
 pub record Input : Type 0 where
   pub role : Role
   pub file : List ℕ
+  pub names : Option NameFormat  -- the format of its text, where it is a framework whose arguments have names
 
 abbrev pub input : Role → List ℕ → Input
-input role file = record { role = role; file = file }
+input role file = record { role = role; file = file; names = None }
+
+-- the file of a framework whose arguments have names, in this format
+abbrev pub named_input : NameFormat → List ℕ → Input
+named_input format file = record { role = Framework 1; file = file; names = Some format }
 
 -- these are the file's bytes, as far as they are known, and no more than the limit
 pub record HasBytes (known : KnownFile) (bytes : List ℕ) : Type 0 where
@@ -64,6 +71,23 @@ IsFirstFaultIn _ bytes line cause = ⊥
 abbrev pub IsSoundIn : Role → List ℕ → Type 0
 IsSoundIn of bytes = (line : ℕ) (cause : FaultCause) → ¬ IsFirstFaultIn of bytes line cause
 
+-- the first fault of the text of a framework whose arguments have names
+abbrev pub IsFirstFaultAs : NameFormat → List ℕ → ℕ → FaultCause → Type 0
+IsFirstFaultAs format bytes line (cause.Name cause) = IsFirstNameFault format bytes line cause
+IsFirstFaultAs format bytes line _ = ⊥
+
+-- the first fault of an input's text, by the format of its names, where it has some, or else by its role
+abbrev pub IsFirstFaultBy : Option NameFormat → Role → List ℕ → ℕ → FaultCause → Type 0
+IsFirstFaultBy None of bytes line cause = IsFirstFaultIn of bytes line cause
+IsFirstFaultBy (Some format) of bytes line cause = IsFirstFaultAs format bytes line cause
+
+abbrev pub IsFirstFaultOf : Input → List ℕ → ℕ → FaultCause → Type 0
+IsFirstFaultOf input bytes line cause = IsFirstFaultBy input.names input.role bytes line cause
+
+-- the input's text has no fault
+abbrev pub IsSoundOf : Input → List ℕ → Type 0
+IsSoundOf input bytes = (line : ℕ) (cause : FaultCause) → ¬ IsFirstFaultOf input bytes line cause
+
 -- the input has been read whole
 abbrev pub IsRead : Reading → Input → Type 0
 IsRead found input = (bytes : List ℕ) × HasBytes (found.holds input.file) bytes
@@ -72,13 +96,13 @@ IsRead found input = (bytes : List ℕ) × HasBytes (found.holds input.file) byt
 pub record IsSound (found : Reading) (input : Input) : Type 0 where
   pub bytes : List ℕ
   pub has : HasBytes (found.holds input.file) bytes
-  pub faultless : IsSoundIn input.role bytes
+  pub faultless : IsSoundOf input bytes
 
 -- the input's text has this first fault
 pub record HasFirstFault (found : Reading) (input : Input) (line : ℕ) (cause : FaultCause) : Type 0 where
   pub bytes : List ℕ
   pub has : HasBytes (found.holds input.file) bytes
-  pub first : IsFirstFaultIn input.role bytes line cause
+  pub first : IsFirstFaultOf input bytes line cause
 
 -- a read of the input failed: the fault was counted, and the file isn't served
 pub record HasReadFault (found : Reading) (input : Input) : Type 0 where

@@ -8,6 +8,7 @@ use Rattle.af_format.specs.Causes.{cause_name}
 use Rattle.iccma_tasks.specs.Names.{cause_name as answer_cause}
 use Rattle.certificate_text.specs.Names.{cause_name as certificate_cause}
 use Rattle.script_text.specs.ScriptFaults.{cause_name as script_cause}
+use Rattle.apx_tgf.specs.Faults.{cause_name as name_cause}
 use Rattle.certificate_claims.specs.declared.verdict.Cause.{Cause as Failure}
 use Rattle.certificate_claims.specs.declared.verdict.Cause.TheVariants.{AnswerShape, BadWitness, SetCount, BadSet}
 use Rattle.certificate_claims.specs.declared.verdict.Cause.TheVariants.{RefutationCount, BadStep, OpenLiteral}
@@ -17,7 +18,7 @@ use Rattle.argue_commands.specs.declared.ended.FaultCause.TheVariants as cause
 use Rattle.argue_commands.specs.declared.ended.Limit.{Limit}
 use Rattle.argue_commands.specs.declared.ended.Limit.TheVariants as limit
 use Rattle.argue_commands.specs.declared.ended.Refusal.{Refusal}
-use Rattle.argue_commands.specs.declared.ended.Refusal.TheVariants.{Line, Query}
+use Rattle.argue_commands.specs.declared.ended.Refusal.TheVariants.{Line, Query, UnknownName}
 use Rattle.argue_commands.specs.declared.ended.Status.{Status}
 use Rattle.argue_commands.specs.declared.ended.Status.TheVariants as status
 use Rattle.argue_commands.specs.declared.texts.Text.{Text}
@@ -45,6 +46,7 @@ cause_text (cause.Framework cause) = cause_name cause
 cause_text (cause.Script cause) = script_cause cause
 cause_text (cause.Answer cause) = answer_cause cause
 cause_text (cause.Certificate cause) = certificate_cause cause
+cause_text (cause.Name cause) = name_cause cause
 
 -- the name of a check's failure
 abbrev pub failure_text : Failure → List ℕ
@@ -66,6 +68,7 @@ abbrev pub refusal_text : Refusal → List ℕ
 refusal_text (Line role line cause) =
     codes "error: " ++ (role_text role ++ (codes " line " ++ (decimal line ++ (32 ∷ (cause_text cause ++ 10 ∷ [])))))
 refusal_text (Query fault) = query_line (fault_name fault) (fault_number fault)
+refusal_text UnknownName = query_line (codes "UnknownName") None
 
 -- the line of a certificate that isn't accepted: why, and where
 abbrev pub rejection_text : Failure → ℕ → ℕ → List ℕ

@@ -4,6 +4,7 @@ ghost use Rattle.std.specs.Prelude.{◌≡◌};
 ghost use Rattle.argue_commands.specs.Statuses.{code_of};
 
 use af_format::LineCause;
+use apx_tgf::NameCause;
 use argue_outside::Role;
 use certificate_claims::Cause as Failure;
 use certificate_text::CertCause;
@@ -23,6 +24,8 @@ pub enum FaultCause {
     Answer(AnswerCause),
     /// A line of a certificate.
     Certificate(CertCause),
+    /// A line of a framework whose arguments have names.
+    Name(NameCause),
 }
 
 /// Why an input is refused.
@@ -32,6 +35,8 @@ pub enum Refusal {
     Line(Role, usize, FaultCause),
     /// The query doesn't fit the framework.
     Query(QueryFault),
+    /// No argument has the name that the query asks about.
+    UnknownName,
 }
 
 /// Which bound was met.

@@ -27,7 +27,7 @@ impl From<Memory> for Status {
 }
 
 /// The whole bytes of an input, or the status of the run that it ends.
-pub(crate) fn read_input<F: Files>(
+pub fn read_input<F: Files>(
     alloc: Global,
     files: &mut F,
     role: Role,

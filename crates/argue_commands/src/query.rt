@@ -24,8 +24,8 @@ pub struct Solving {
     pub budget: u32,
 }
 
-// The task of a name.
-fn task_named(name: &str) -> Option<Task>
+/// The task of a name.
+pub fn task_named(name: &str) -> Option<Task>
     ensures { result ≡ first_named all_tasks name.now }
 {
     match Task::read(name.as_bytes()) {

@@ -39,7 +39,7 @@ pub fn status_of(stop: AnswerStop) -> Status
 }
 
 /// The session of a query on a framework.
-fn answer(alloc: Global, framework: Framework, solving: &Solving) -> Result<KeptSession, Memory>
+pub fn answer(alloc: Global, framework: Framework, solving: &Solving) -> Result<KeptSession, Memory>
     ensures { IfOk result (IsSessionOf (framework_of framework) solving.now) }
 {
     let mut engine = Engine::new(alloc, 1, framework, LOG_LIMIT)?;

@@ -58,6 +58,7 @@ fn cause_name(cause: FaultCause) -> &'static str
         FaultCause::Script(cause) => cause.name(),
         FaultCause::Answer(cause) => cause.name(),
         FaultCause::Certificate(cause) => cause.name(),
+        FaultCause::Name(cause) => cause.name(),
     }
 }
 
@@ -125,6 +126,7 @@ fn refusal_line(alloc: Global, refusal: Refusal) -> Result<String, Memory>
             Ok(format!(in alloc; "error: {role} line {line} {cause}\n")?)
         }
         Refusal::Query(fault) => query_fault_line(alloc, fault),
+        Refusal::UnknownName => Ok(String::from_str(alloc, "error: query UnknownName\n")?),
     }
 }
 

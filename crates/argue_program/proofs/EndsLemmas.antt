@@ -2,13 +2,14 @@
 use Rattle.std.proofs.Common.{◌≡◌, ◌≢◌, ◌⊎◌, ◌<◌, ◌≤◌, ℕ, List, length, refl, sym, ap, subst, inl, inr, ⊎_elim}
 use Rattle.std.proofs.Common.{true, false, arith, Option, None, Some, Ok}
 use Rattle.argue_outside.specs.Outside.{KnownFile}
-use Rattle.argue_outside.specs.declared.Role.TheVariants.{Framework, Script as OfScript}
+use Rattle.argue_outside.specs.declared.Role.TheVariants.{Framework, Script as OfScript, Answer as OfAnswer}
+use Rattle.argue_outside.specs.declared.Role.TheVariants.{Certificate as OfCertificate}
 use Rattle.argue_words.specs.Words.{CheckTexts, IsSolveQuery, LiveTexts, Request, SolveTexts, requested}
 use Rattle.argue_words.proofs.RequestLaws.{requested_query}
 use Rattle.framework_text.specs.FrameworkText.{IsFaulty, ReadsAs}
 use Rattle.framework_text.proofs.Readings.{ReadsAs-numbered, ReadsAs-same}
-use Rattle.argue_commands.specs.Inputs.{HasReadFault, Input, IsFirstFaultIn, IsFrameworkOf, IsScriptOf, IsSoundIn}
-use Rattle.argue_commands.specs.Inputs.{Reading, StopsAt, StopsAtFirst, input}
+use Rattle.argue_commands.specs.Inputs.{HasReadFault, Input, IsFirstFaultIn, IsFirstFaultOf, IsFrameworkOf, IsScriptOf}
+use Rattle.argue_commands.specs.Inputs.{IsSoundOf, Reading, StopsAt, StopsAtFirst, input}
 use Rattle.argue_program.specs.Rows.{EndsCommand, EndsLarge, EndsLive, EndsSolved, bench_row, check_row, live_row}
 use Rattle.argue_program.specs.Rows.{problems_row, row_of, solve_row, unknown_row, version_row}
 use Rattle.iccma_tasks.specs.Tasks.{Asked}
@@ -42,7 +43,7 @@ use Rattle.script_text.proofs.OneScript.{script_same}
 use Rattle.script_text.specs.ScriptText.{IsScript}
 use Rattle.script_text.specs.declared.script.Script.{Script}
 use Rattle.argue_commands.specs.declared.ended.Limit.TheVariants as limit
-use Rattle.argue_commands.specs.declared.ended.Refusal.TheVariants.{Line, Query}
+use Rattle.argue_commands.specs.declared.ended.Refusal.TheVariants.{Line, Query, UnknownName}
 use Rattle.argue_commands.specs.declared.ended.Status.{Status}
 use Rattle.argue_commands.specs.declared.ended.Status.TheVariants.{Done, Usage, InputRefused, ReadFault}
 use Rattle.argue_commands.specs.declared.ended.Status.TheVariants.{WriteFault, WantOfMemory, Unknown, Limit}
@@ -114,6 +115,12 @@ module _ (found : Reading) (words : List (List ℕ)) (texts : SolveTexts) (query
       not_query (inl stops) = stops
       not_query (inr (inl is)) = absurd (cc)
       not_query (inr (inr solved)) = unread (InputRefused (Query fault)) solved faulty
+  refuses_bytes (InputRefused UnknownName) faulty short ends = not_name (ends (λ e. cc))
+    where
+      not_name : EndsQuery found texts query kept (InputRefused UnknownName) → ⊥
+      not_name (inl stops) = stops
+      not_name (inr (inl is)) = absurd (cc)
+      not_name (inr (inr solved)) = unread (InputRefused UnknownName) solved faulty
   refuses_bytes (InputRefused (Line r line c)) faulty short ends = at_first (ends (λ e. cc))
     where
       at_first : EndsQuery found texts query kept (InputRefused (Line r line c))
@@ -183,6 +190,12 @@ module _ (found : Reading) (words : List (List ℕ)) (texts : SolveTexts) (query
       not_query (inl stops) = stops
       not_query (inr (inl is)) = absurd (cc)
       not_query (inr (inr solved)) = too_long_for (InputRefused (Query fault)) solved long
+  refuses_length (InputRefused UnknownName) long ends = not_name (ends (λ e. cc))
+    where
+      not_name : EndsQuery found texts query kept (InputRefused UnknownName) → ⊥
+      not_name (inl stops) = stops
+      not_name (inr (inl is)) = absurd (cc)
+      not_name (inr (inr solved)) = too_long_for (InputRefused UnknownName) solved long
   refuses_length (InputRefused (Line r line c)) long ends = not_line (ends (λ e. cc))
     where
       not_line : EndsQuery found texts query kept (InputRefused (Line r line c)) → ⊥
@@ -300,14 +313,14 @@ done_right found (Some asked) texts kept asks (inl (nothing, inr memory)) = absu
 done_right found (Some asked) texts kept asks (inr checks) = accepts_right found.holds asked texts asks checks.1
 
 -- an input that reads as something ends no run
-no_stop : (found : Reading) (one : Input) (P : List ℕ → Type 0) →
-    ((bytes : List ℕ) → P bytes → IsSoundIn one.role bytes)
-    → HasText found one P → (end : Status) → ¬ StopsAt found end one
+pub no_stop : (found : Reading) (one : Input) (P : List ℕ → Type 0)
+    → ((bytes : List ℕ) → P bytes → IsSoundOf one bytes) → HasText found one P → (end : Status) → ¬ StopsAt found end one
 no_stop found one P sound has (InputRefused (Line of line c)) stops =
     sound has.bytes has.reads line c
-    (subst (λ bs. IsFirstFaultIn one.role bs line c)
+    (subst (λ bs. IsFirstFaultOf one bs line c)
     (bytes_at (found.holds one.file) has.bytes stops.1.bytes has.known stops.1.has) stops.1.first)
 no_stop found one P sound has (InputRefused (Query fault)) stops = stops
+no_stop found one P sound has (InputRefused UnknownName) stops = stops
 no_stop found one P sound has (ReadFault of) stops =
     ⊎_elim (λ served. stops.1.unserved served) (λ uncounted. uncounted stops.1.counted) has.no_fault
 no_stop found one P sound has (Limit limit.Input) stops =
@@ -366,12 +379,15 @@ module _ (found : Reading) (words : List (List ℕ)) (texts : CheckTexts) (asked
       cc e
 
   no_stops : (end : Status) → ¬ StopsAtFirst found end (check_inputs texts)
-  no_stops end (inl stops) = no_stop found _ _ (λ bytes reads. framework_sound bytes f reads) contents.of_framework end
-      stops.0
+  no_stops end (inl stops) =
+      no_stop found (input (Framework 1) texts.file) _
+      (λ bytes reads. framework_sound bytes f reads) contents.of_framework end stops.0
   no_stops end (inr (passed, inl stops)) =
-      no_stop found _ _ (λ bytes reads. answer_sound bytes answer reads) contents.of_answer end stops.0
+      no_stop found (input OfAnswer texts.answer) _
+      (λ bytes reads. answer_sound bytes answer reads) contents.of_answer end stops.0
   no_stops end (inr (passed, inr (passed', inl stops))) =
-      no_stop found _ _ (λ bytes reads. certificate_sound bytes certificate reads) contents.of_certificate end stops.0
+      no_stop found (input OfCertificate texts.certificate) _
+      (λ bytes reads. certificate_sound bytes certificate reads) contents.of_certificate end stops.0
   no_stops end (inr (passed, inr (passed', inr stops))) = stops.1
 
   checks_end : (end : Status) → ChecksFiles found.holds asked texts end → IsCheckEnd f asked answer certificate end
@@ -421,7 +437,8 @@ module _ (found : Reading) (words : List (List ℕ)) (texts : SolveTexts) (query
   pub ends_solve : (kept : Transcript) (end : Status) → EndsQuery found texts query kept end
       → IsSolveEnd f query kept end
   ends_solve kept end (inl stops) =
-      absurd (no_stop found _ _ (λ bytes reads. framework_sound bytes f reads) contents.of_framework end stops)
+      absurd (no_stop found (input (Framework 1) texts.file) _
+      (λ bytes reads. framework_sound bytes f reads) contents.of_framework end stops)
   ends_solve kept end (inr (inl is)) =
       let P : Status → Type 0 = IsSolveEnd f query kept in subst P (sym is) tt
   ends_solve kept end (inr (inr ends)) = solved_end kept end (replied kept end ends)
@@ -450,9 +467,11 @@ module _ (found : Reading) (words : List (List ℕ)) (texts : LiveTexts) (budget
 
   neither_stops : (end : Status) → ¬ StopsAtFirst found end (live_inputs texts)
   neither_stops end (inl stops) =
-      no_stop found _ _ (λ bytes reads. framework_sound bytes f reads) contents.of_framework end stops.0
+      no_stop found (input (Framework 1) texts.file) _
+      (λ bytes reads. framework_sound bytes f reads) contents.of_framework end stops.0
   neither_stops end (inr (passed, inl stops)) =
-      no_stop found _ _ (λ bytes reads. script_sound bytes script reads) contents.of_script end stops.0
+      no_stop found (input OfScript texts.script) _
+      (λ bytes reads. script_sound bytes script reads) contents.of_script end stops.0
   neither_stops end (inr (passed, inr stops)) = stops.1
 
   keeps_transcript : (kept : Transcript) (end : Status) → EndsLive found.holds budget texts kept end
@@ -502,6 +521,7 @@ module _ (found : Reading) (words : List (List ℕ)) (texts : LiveTexts) (budget
   stops_at_script (InputRefused (Line of line c)) short stops =
       (stops.0, first_at found (input OfScript texts.script) bytes line c asks.known stops.1)
   stops_at_script (InputRefused (Query fault)) short stops = stops
+  stops_at_script (InputRefused UnknownName) short stops = stops
   stops_at_script (ReadFault of) short stops = absurd (script_read stops.1)
   stops_at_script (Limit limit.Input) short stops =
       let long = longer_at (found.holds texts.script) bytes asks.known stops in absurd (omega arith)
@@ -518,7 +538,8 @@ module _ (found : Reading) (words : List (List ℕ)) (texts : LiveTexts) (budget
   pub refuses_script : (end : Status) → IsFaultyScript bytes → length bytes ≤ MAX_INPUT
       → EndsLiving found texts budget kept end → RefusesBytes OfScript bytes end
   refuses_script end faulty short (inl (inl stops)) =
-      absurd (no_stop found _ _ (λ bs reads. framework_sound bs f reads) asks.of_framework end stops.0)
+      absurd (no_stop found (input (Framework 1) texts.file) _
+      (λ bs reads. framework_sound bs f reads) asks.of_framework end stops.0)
   refuses_script end faulty short (inl (inr (passed, inl stops))) = stops_at_script end short stops.0
   refuses_script end faulty short (inl (inr (passed, inr stops))) = absurd stops.1
   refuses_script end faulty short (inr (inl is)) =
@@ -531,6 +552,7 @@ module _ (found : Reading) (words : List (List ℕ)) (texts : LiveTexts) (budget
       let short = within_at (found.holds texts.script) bytes stops.1.bytes asks.known stops.1.has in absurd
       (omega arith)
   stops_at_length (InputRefused (Query fault)) long stops = stops
+  stops_at_length (InputRefused UnknownName) long stops = stops
   stops_at_length (ReadFault of) long stops = absurd (script_read stops.1)
   stops_at_length (Limit limit.Input) long stops = tt
   stops_at_length (Limit limit.Extensions) long stops = stops
@@ -546,7 +568,8 @@ module _ (found : Reading) (words : List (List ℕ)) (texts : LiveTexts) (budget
   pub refuses_long_script : (end : Status) → MAX_INPUT < length bytes → EndsLiving found texts budget kept end
       → RefusesLength end
   refuses_long_script end long (inl (inl stops)) =
-      absurd (no_stop found _ _ (λ bs reads. framework_sound bs f reads) asks.of_framework end stops.0)
+      absurd (no_stop found (input (Framework 1) texts.file) _
+      (λ bs reads. framework_sound bs f reads) asks.of_framework end stops.0)
   refuses_long_script end long (inl (inr (passed, inl stops))) = stops_at_length end long stops.0
   refuses_long_script end long (inl (inr (passed, inr stops))) = absurd stops.1
   refuses_long_script end long (inr (inl is)) = subst RefusesLength (sym is) tt

@@ -2,12 +2,19 @@
 use Rattle.std.proofs.Common.{◌≡◌, ◌≢◌, ◌∙◌, ◌⊎◌, ℕ, List, [], ◌∷◌, map, refl, sym, ap, subst, inl, inr, ⊎_elim, Option, None, Some, Result, Ok, Err}
 use Rattle.argue_outside.specs.Outside.{FaultCounted, KnownFile}
 use Rattle.argue_outside.specs.declared.Role.{Role}
-use Rattle.argue_words.specs.Words.{BenchTexts, CheckTexts, IsBenchQuery, IsLiveQuery, IsSolveQuery, LiveTexts, Request, version, problems, solving, checking, living, benching, unknown, SolveTexts, requested}
-use Rattle.argue_words.proofs.RequestLaws.{input_requested, query_requested, script_requested}
+use Rattle.argue_words.specs.Words.{AfTexts, BenchTexts, CheckTexts, IsBenchQuery, IsLiveQuery, IsNamesQuery, IsSolveQuery}
+use Rattle.argue_words.specs.Words.{LiveTexts, NamesTexts, Request, SolveTexts, version, problems, solving, checking}
+use Rattle.argue_words.specs.Words.{living, benching, by_name, numbering, unknown, requested}
+use Rattle.argue_words.proofs.RequestLaws.{input_requested, names_requested_by, query_requested, script_requested}
+use Rattle.apx_tgf.specs.declared.format.NameFormat.{NameFormat}
+use Rattle.named_commands.specs.Namings.{AnswersNamedFile, format_named, naming_by, solving_of}
+use Rattle.named_commands.specs.declared.naming.Naming.{Naming}
 use Rattle.argue_commands.specs.Inputs.{Reading}
 use Rattle.argue_commands.specs.Replacing.{FileText, certificate_files, file_text, RefusesFile}
 use Rattle.argue_commands.proofs.ReplacingLemmas.{HaveOtherNames}
-use Rattle.argue_program.specs.Rows.{EndsCommand, IsEndingFor, IsEndingOf, bench_row, check_row, certificates_files, files_beside, live_row, nothing_kept, reply_files, row_of, script_files, script_kept, session_files, solve_row}
+use Rattle.argue_program.specs.Rows.{EndsCommand, IsEndingFor, IsEndingOf, af_row, bench_row, check_row, certificates_files}
+use Rattle.argue_program.specs.Rows.{files_beside, live_row, names_row, nothing_kept, reply_files, row_of, script_files}
+use Rattle.argue_program.specs.Rows.{script_kept, session_files, solve_row}
 use Rattle.iccma_tasks.specs.Tasks.{Asked}
 use Rattle.argue_program.specs.LargeInputs.{large_by}
 use Rattle.argue_commands.specs.Queries.{asked_by, budget_of, solving_by}
@@ -37,7 +44,7 @@ use Rattle.argue_commands.specs.Texts.{common_text}
 
 -- ---- files of other names
 
-some_is : {X : Type 0} {x y : X} → Some x ≡ Some y → x ≡ y
+pub some_is : {X : Type 0} {x y : X} → Some x ≡ Some y → x ≡ y
 some_is e = cc
 
 beside_other : (name : List ℕ) (text : Option (List ℕ)) (files : List FileText) → HaveOtherNames name files
@@ -92,6 +99,17 @@ bench_other : (large : Option LargeInput) (kept : Transcript) (end : Status) (na
 bench_other None kept end name = tt
 bench_other (Some large) kept end name = tt
 
+names_other : (holds : List ℕ → KnownFile) (by : Option Naming) (texts : NamesTexts) (kept : Transcript) (end : Status)
+    (name : List ℕ) → (texts.certificate ≡ Some name → ⊥)
+    → HaveOtherNames name ((names_row holds by texts).files kept end)
+names_other holds None texts kept end name other = tt
+names_other holds (Some naming) texts kept end name other = session_other name texts.certificate kept.session other
+
+af_other : (holds : List ℕ → KnownFile) (by : Option NameFormat) (texts : AfTexts) (kept : Transcript) (end : Status)
+    (name : List ℕ) → HaveOtherNames name ((af_row holds by texts).files kept end)
+af_other holds None texts kept end name = tt
+af_other holds (Some format) texts kept end name = tt
+
 -- a row writes no file but that for certificates
 row_other : (holds : List ℕ → KnownFile) (words : List (List ℕ)) (request : Request) (kept : Transcript) (end : Status)
     (name : List ℕ) → requested words ≡ request → ¬ NamesCertificate words name
@@ -105,8 +123,12 @@ row_other holds words (checking texts) kept end name is other =
     check_other holds (asked_by texts.task texts.number) texts kept end name
 row_other holds words (living texts) kept end name is other =
     live_other holds (budget_of texts.budget) texts kept end name
-    (λ e. other (inr (record { texts = texts; asks = script_requested words texts is; named = e })))
+    (λ e. other (inr (inl (record { texts = texts; asks = script_requested words texts is; named = e }))))
 row_other holds words (benching texts) kept end name is other = bench_other (large_by texts) kept end name
+row_other holds words (by_name texts) kept end name is other =
+    names_other holds (naming_by texts) texts kept end name
+    (λ e. other (inr (inr (record { texts = texts; asks = names_requested_by words texts is; named = e }))))
+row_other holds words (numbering texts) kept end name is other = af_other holds (format_named texts.kind) texts kept end name
 row_other holds words unknown kept end name is other = tt
 
 -- the files of an ending have other names than one that names no certificate
@@ -173,6 +195,44 @@ IsRunOf-written words seen ended ending count holds writes decided same none kep
       refused = refused;
     }
 
+-- ---- a session that is kept
+
+-- that of a query by numbers
+pub asks_number : (words : List (List ℕ)) (holds : List ℕ → KnownFile) (texts : SolveTexts) (query : Solving)
+    (session : KeptSession) → IsSolveQuery words texts → solving_by texts ≡ Some query
+    → IsSessionOn (holds texts.file) query session → AsksSession words holds session
+asks_number words holds texts query session asks query_is on = record {
+  query = query;
+  framework = on.framework;
+  asks = inl (record { texts = texts; asks = asks; query_is = query_is; of_framework = on.of_framework });
+  is = on.is;
+}
+
+-- that of a query by names
+pub asks_name : (words : List (List ℕ)) (holds : List ℕ → KnownFile) (texts : NamesTexts) (naming : Naming)
+    (session : KeptSession) (text : List ℕ) → IsNamesQuery words texts → naming_by texts ≡ Some naming
+    → AnswersNamedFile (holds texts.file) naming texts.name session text → AsksSession words holds session
+asks_name words holds texts naming session text asks naming_is file =
+    let answers = file.answers in
+    record {
+      query = solving_of naming answers.asked;
+      framework = af answers.framework;
+      asks = inr (record {
+        texts = texts;
+        asks = asks;
+        naming = naming;
+        naming_is = naming_is;
+        names = answers.names;
+        plain = answers.framework;
+        of_framework = record { bytes = file.bytes; has = file.has; reads = answers.reads };
+        framework_is = refl;
+        asked = answers.asked;
+        asks_by = answers.asks;
+        query_is = refl;
+      });
+      is = answers.is;
+    }
+
 -- nothing is kept, and so no session
 none_kept : (found : Reading) (words : List (List ℕ)) (kept : Transcript) (session : KeptSession) → kept ≡ nothing_kept
     → kept.session ≡ Some session → AsksSession words found.holds session
@@ -211,14 +271,29 @@ kept_by : (found : Reading) (words : List (List ℕ)) (texts : SolveTexts) (by :
     → AsksSession words found.holds session
 kept_by found words texts None kept end session asks query_is unasked is =
     none_kept found words kept session unasked.0 is
-kept_by found words texts (Some query) kept end session asks query_is solved is = record {
-  texts = texts;
-  asks = asks;
-  query = query;
-  query_is = query_is;
-  on = let e : solved.session ≡ session = some_is (sym (ap (λ (k : Transcript). k.session) solved.keeps) ∙ is) in
-      subst (IsSessionOn (found.holds texts.file) query) e solved.on;
-}
+kept_by found words texts (Some query) kept end session asks query_is solved is =
+    let e : solved.session ≡ session = some_is (sym (ap (λ (k : Transcript). k.session) solved.keeps) ∙ is) in
+    subst (AsksSession words found.holds) e
+    (asks_number words found.holds texts query solved.session asks query_is solved.on)
+
+names_session : (found : Reading) (words : List (List ℕ)) (texts : NamesTexts) (by : Option Naming) (kept : Transcript)
+    (end : Status) (session : KeptSession) → IsNamesQuery words texts → naming_by texts ≡ by
+    → (names_row found.holds by texts).Ends kept end → kept.session ≡ Some session
+    → AsksSession words found.holds session
+names_session found words texts None kept end session asks naming_is unasked is =
+    none_kept found words kept session unasked.0 is
+names_session found words texts (Some naming) kept end session asks naming_is (inr unnamed) is =
+    none_kept found words kept session unnamed.keeps is
+names_session found words texts (Some naming) kept end session asks naming_is (inl named) is =
+    let e : named.session ≡ session = some_is (sym (ap (λ (k : Transcript). k.session) named.keeps) ∙ is) in
+    subst (AsksSession words found.holds) e
+    (asks_name words found.holds texts naming named.session named.text asks naming_is named.answers)
+
+-- a text with numbers keeps nothing
+af_keeps : (holds : List ℕ → KnownFile) (by : Option NameFormat) (texts : AfTexts) (kept : Transcript) (end : Status)
+    → (af_row holds by texts).Ends kept end → kept ≡ nothing_kept
+af_keeps holds None texts kept end unasked = unasked.0
+af_keeps holds (Some format) texts kept end numbered = numbered.keeps
 
 pub kept_at : (found : Reading) (words : List (List ℕ)) (request : Request) (kept : Transcript) (end : Status)
     (session : KeptSession) → requested words ≡ request → EndsCommand found (row_of found.holds request) kept end
@@ -235,6 +310,10 @@ kept_at found words (living texts) kept end session asked (inr ends) is =
     live_session found words texts (budget_of texts.budget) kept end session ends is
 kept_at found words (benching texts) kept end session asked (inr ends) is =
     bench_session found words (large_by texts) kept end session ends is
+kept_at found words (by_name texts) kept end session asked (inr ends) is =
+    names_session found words texts (naming_by texts) kept end session (names_requested_by words texts asked) refl ends is
+kept_at found words (numbering texts) kept end session asked (inr ends) is =
+    none_kept found words kept session (af_keeps found.holds (format_named texts.kind) texts kept end ends) is
 kept_at found words (solving texts) kept end session asked (inr ends) is =
     kept_by found words texts (solving_by texts) kept end session (query_requested words texts asked) refl ends is
 
@@ -250,6 +329,14 @@ solve_no_script : (holds : List ℕ → KnownFile) (by : Option Solving) (texts 
 solve_no_script holds None texts kept end transcript unasked is = nothing_no_script kept transcript unasked.0 is
 solve_no_script holds (Some query) texts kept end transcript solved is =
     let e : None ≡ Some transcript = sym (ap (λ (k : Transcript). k.script) solved.keeps) ∙ is in cc
+
+names_no_script : (holds : List ℕ → KnownFile) (by : Option Naming) (texts : NamesTexts) (kept : Transcript) (end : Status)
+    (transcript : ScriptTranscript) → (names_row holds by texts).Ends kept end → kept.script ≡ Some transcript → ⊥
+names_no_script holds None texts kept end transcript unasked is = nothing_no_script kept transcript unasked.0 is
+names_no_script holds (Some naming) texts kept end transcript (inr unnamed) is =
+    nothing_no_script kept transcript unnamed.keeps is
+names_no_script holds (Some naming) texts kept end transcript (inl named) is =
+    let e : None ≡ Some transcript = sym (ap (λ (k : Transcript). k.script) named.keeps) ∙ is in cc
 
 script_by : (found : Reading) (words : List (List ℕ)) (texts : LiveTexts) (by : Option ℕ) (kept : Transcript)
     (end : Status) (transcript : ScriptTranscript) → IsLiveQuery words texts → budget_of texts.budget ≡ by
@@ -303,5 +390,10 @@ script_at found words (living texts) kept end transcript asked (inr ends) is =
     refl ends is)
 script_at found words (benching texts) kept end transcript asked (inr ends) is =
     inr (large_from words texts (large_by texts) kept end transcript (input_requested words texts asked) refl ends is)
+script_at found words (by_name texts) kept end transcript asked (inr ends) is =
+    absurd (names_no_script found.holds (naming_by texts) texts kept end transcript ends is)
+script_at found words (numbering texts) kept end transcript asked (inr ends) is =
+    absurd (nothing_no_script kept transcript
+    (af_keeps found.holds (format_named texts.kind) texts kept end ends) is)
 script_at found words unknown kept end transcript asked (inr unasked) is =
     absurd (nothing_no_script kept transcript unasked.0 is)

@@ -1,5 +1,6 @@
 mod EndsLemmas
 mod LargeLemmas
+mod NamesLemmas
 mod ScriptLemmas
 pub mod KeptLemmas
 pub mod RowsLemmas

@@ -1,20 +1,29 @@
 -- Endings that a row of the table has.
 use Rattle.std.proofs.Common.{◌≡◌, ◌≢◌, ◌∙◌, ◌⊎◌, ℕ, List, [], ◌∷◌, refl, sym, ap, subst, inl, inr, arith, false, Option, None, Some, Result, Ok, Err, codes}
-use Rattle.std.specs.Prelude.{IfOk, IsTrue}
+use Rattle.std.specs.Prelude.{Contains, IfOk, IsTrue}
 use Rattle.std.specs.Option.{unwrap_or}
 use Rattle.lists.specs.declared.memory.Memory.{Memory}
 use Rattle.argue_outside.specs.Outside.{KnownFile, OtherCountsKept}
 use Rattle.argue_outside.specs.declared.Role.{Role}
 use Rattle.argue_outside.specs.declared.Role.TheVariants as role
-use Rattle.argue_words.specs.Words.{CheckTexts, LiveTexts, Request, version, problems, solving, checking, living, benching, unknown, SolveTexts, bench_texts, is_bench, is_live, live_texts, request_of, requested}
-use Rattle.argue_words.proofs.RequestLaws.{input_requested, no_bench_in, no_live_in, none_requested, script_requested}
+use Rattle.argue_words.specs.Words.{AfTexts, CheckTexts, LiveTexts, NamesTexts, Request, SolveTexts, version, problems}
+use Rattle.argue_words.specs.Words.{solving, checking, living, benching, by_name, numbering, unknown, bench_texts}
+use Rattle.argue_words.specs.Words.{command_named, live_texts, request_of, requested}
+use Rattle.argue_words.proofs.RequestLaws.{input_requested, no_name_in, none_requested, script_requested}
+use Rattle.argue_words.specs.declared.words.CommandName.TheVariants as command
 use Rattle.argue_words.specs.declared.words.Command.{Command}
 use Rattle.argue_words.specs.declared.words.Command.TheVariants.{Bench, Live}
 use Rattle.argue_words.specs.declared.words.BenchWords.{BenchWords}
 use Rattle.argue_words.specs.declared.words.LiveWords.{LiveWords}
-use Rattle.argue_commands.specs.Inputs.{EndsReading, Input, Reading, StopsAtFirst, input}
+use Rattle.argue_commands.specs.Inputs.{EndsReading, Input, Reading, StopsAtFirst, input, named_input}
 use Rattle.argue_commands.proofs.InputLemmas.{follow_none, one_in, no_read_fault}
-use Rattle.argue_program.specs.Rows.{CountsReads, EndsCommand, EndsSession, IsEndingOf, Row, bench_row, check_row, files_beside, live_row, nothing_kept, row_of, session_files, session_text, solve_row, unknown_row}
+use Rattle.argue_program.specs.Rows.{CountsReads, EndsCommand, EndsSession, IsEndingOf, IsTextOf, Row, af_row, bench_row}
+use Rattle.argue_program.specs.Rows.{check_row, files_beside, live_row, names_row, nothing_kept, row_of, session_files}
+use Rattle.argue_program.specs.Rows.{reply_text, session_text, solve_row, unknown_row}
+use Rattle.apx_tgf.specs.declared.format.NameFormat.{NameFormat}
+use Rattle.named_commands.specs.Namings.{AnswersNamedFile, EndsNaming, format_named, naming_by}
+use Rattle.named_commands.specs.Numberings.{IsNumberedOf}
+use Rattle.named_commands.specs.declared.naming.Naming.{Naming}
 use Rattle.iccma_tasks.specs.Tasks.{Asked}
 use Rattle.argue_commands.specs.Checks.{ChecksFiles, EndsChecking}
 use Rattle.argue_program.specs.LargeInputs.{large_by}
@@ -24,7 +33,7 @@ use Rattle.argue_program.specs.declared.large.LargeInput.{LargeInput}
 use Rattle.argue_commands.specs.declared.query.Solving.{Solving}
 use Rattle.argue_commands.specs.declared.ended.KeptSession.{KeptSession}
 use Rattle.argue_commands.specs.declared.ended.Limit.TheVariants as bound
-use Rattle.argue_commands.specs.declared.ended.Refusal.TheVariants.{Query}
+use Rattle.argue_commands.specs.declared.ended.Refusal.TheVariants.{Query, UnknownName}
 use Rattle.bench_runs.specs.oracle_core.specs.declared.reply.AnswerStop.{AnswerStop}
 use Rattle.bench_runs.specs.oracle_core.specs.declared.reply.AnswerStop.TheVariants as stop
 use Rattle.bench_runs.specs.oracle_core.specs.declared.reply.Answered.{Answered}
@@ -33,6 +42,25 @@ use Rattle.argue_program.specs.declared.ending.Ending.{Ending}
 use Rattle.argue_commands.specs.declared.ended.Status.{Status}
 use Rattle.argue_commands.specs.declared.ended.Status.TheVariants.{Done, Usage, InputRefused, ReadFault, WriteFault, WantOfMemory, Unknown, Limit}
 use Rattle.argue_program.specs.declared.ended.Transcript.{Transcript}
+
+-- ---- the text of an ending
+
+-- the text that a status says itself
+pub text_said : (said : Option (List ℕ)) (Says : List ℕ → Type 0) (text : List ℕ) → Some text ≡ said
+    → IsTextOf said Says text
+text_said said Says text is = let P : Option (List ℕ) → Type 0 = λ o. IsTextOf o Says text in subst P is refl
+
+-- the text that it says itself, or else one of which P holds
+pub text_told : (said : Option (List ℕ)) (Says : List ℕ → Type 0) (text other : List ℕ) → text ≡ unwrap_or said other
+    → Says other → IsTextOf said Says text
+text_told None Says text other is says = subst Says (sym is) says
+text_told (Some line) Says text other is says = is
+
+-- the same of a run that is done
+pub text_done : (end : Status) (Says : List ℕ → Type 0) (text : List ℕ) → end ≡ Done → Says text
+    → IsTextOf (common_text end) Says text
+text_done end Says text done says =
+    let P : Status → Type 0 = λ e. IsTextOf (common_text e) Says text in subst P (sym done) says
 
 -- ---- a run that stopped
 
@@ -59,7 +87,7 @@ module _ (found : Reading) (row : Row) (ending : Ending) (end : Status) where
     cause =
         let P : Transcript → Type 0 = λ k. EndsCommand found row k ending.status in
         subst P (sym kept) (stopped_cause cause takes is);
-    text = rw (sym text) refl;
+    text = text_said (common_text ending.status) (row.Says ending.kept ending.status) (text_bytes ending.text) text;
     files = rw none (rw (sym text) refl);
     counts = record { quiet = stopped_quiet counts.quiet is; others = counts.others };
   }
@@ -85,6 +113,16 @@ bench_takes : (large : Option LargeInput) → IsTrue (bench_row large).takes_mem
 bench_takes None = refl
 bench_takes (Some large) = refl
 
+names_takes : (holds : List ℕ → KnownFile) (by : Option Naming) (texts : NamesTexts)
+    → IsTrue (names_row holds by texts).takes_memory
+names_takes holds None texts = refl
+names_takes holds (Some naming) texts = refl
+
+af_takes : (holds : List ℕ → KnownFile) (by : Option NameFormat) (texts : AfTexts)
+    → IsTrue (af_row holds by texts).takes_memory
+af_takes holds None texts = refl
+af_takes holds (Some format) texts = refl
+
 takes_unless : (holds : List ℕ → KnownFile) (words : List (List ℕ)) (request : Request) → requested words ≡ request
     → words ≢ []
     → IsTrue (row_of holds request).takes_memory
@@ -94,6 +132,8 @@ takes_unless holds words (solving texts) is some = solve_takes holds (solving_by
 takes_unless holds words (checking texts) is some = check_takes holds (asked_by texts.task texts.number) texts
 takes_unless holds words (living texts) is some = live_takes holds (budget_of texts.budget) texts
 takes_unless holds words (benching texts) is some = bench_takes (large_by texts)
+takes_unless holds words (by_name texts) is some = names_takes holds (naming_by texts) texts
+takes_unless holds words (numbering texts) is some = af_takes holds (format_named texts.kind) texts
 takes_unless holds words unknown is some = refl
 
 -- where there are words, the command that they ask for takes memory
@@ -102,17 +142,17 @@ pub takes_memory : (holds : List ℕ → KnownFile) (words : List (List ℕ)) �
 takes_memory holds words some = takes_unless holds words (requested words) refl some
 
 -- words whose first is neither `live` nor `bench` ask for no threads
-pub wants_no_script : (words : List (List ℕ)) (c : Command) → is_live words ≡ false → request_of c ≡ requested words
-    → (texts : LiveWords) → c ≢ Live texts
+pub wants_no_script : (words : List (List ℕ)) (c : Command) → command_named words ≢ Some command.Live
+    → request_of c ≡ requested words → (texts : LiveWords) → c ≢ Live texts
 wants_no_script words c other asks texts is =
-    no_live_in words other (live_texts texts)
-    (script_requested words (live_texts texts) (sym asks ∙ ap request_of is))
+    let query = script_requested words (live_texts texts) (sym asks ∙ ap request_of is) in
+    no_name_in words query.rest command.Live other query.words_are
 
-pub wants_no_large : (words : List (List ℕ)) (c : Command) → is_bench words ≡ false → request_of c ≡ requested words
-    → (texts : BenchWords) → c ≢ Bench texts
+pub wants_no_large : (words : List (List ℕ)) (c : Command) → command_named words ≢ Some command.Bench
+    → request_of c ≡ requested words → (texts : BenchWords) → c ≢ Bench texts
 wants_no_large words c other asks texts is =
-    no_bench_in words other (bench_texts texts)
-    (input_requested words (bench_texts texts) (sym asks ∙ ap request_of is))
+    let query = input_requested words (bench_texts texts) (sym asks ∙ ap request_of is) in
+    no_name_in words query.rest command.Bench other query.words_are
 
 -- the cause of want of memory in a row that takes any
 pub EndsCommand-memory : (found : Reading) (row : Row) → IsTrue row.takes_memory
@@ -172,7 +212,7 @@ check_done found by asked texts ending is checks quiet status kept text files =
     let P : Option Asked → Type 0 = λ o. IsEndingOf found (check_row found.holds o texts) ending in
     subst P (sym is) (record {
       cause = rw status (rw kept (inr (refl, checks)));
-      text = rw status text;
+      text = text_done ending.status (λ t. t ≡ codes "ACCEPTED\n") (text_bytes ending.text) status text;
       files = rw status (rw files refl);
       counts = CountsReads-none found (check_row found.holds (Some asked) texts) ending.status quiet;
     })
@@ -228,26 +268,27 @@ module _ (found : Reading) (by : Option Solving) (query : Solving) (texts : Solv
 
   -- a query that came to a session ends as its row says
   pub solve_session : (session : KeptSession) → IsSessionOn (found.holds texts.file) query session
-      → found.new_count ≡ found.old_count → EndsSession session texts.certificate ending
+      → found.new_count ≡ found.old_count → EndsSession session (reply_text session.reply) texts.certificate ending
       → IsEndingOf found (solve_row found.holds by texts) ending
   solve_session session on quiet ends =
       let keeps : ending.kept.session ≡ Some session = ap (λ (k : Transcript). k.session) ends.keeps in
       subst IsEndingBy (sym is) (record {
         cause = inr (record { session = session; keeps = ends.keeps; on = on; ends = ends.status });
-        text = ends.text ∙ ap (λ s. unwrap_or (common_text ending.status) (session_text s)) (sym keeps);
+        text = text_told (common_text ending.status) (λ t. t ≡ session_text ending.kept.session)
+            (text_bytes ending.text) (reply_text session.reply) ends.text (sym (ap session_text keeps));
         files = ends.files ∙ ap (λ s. files_beside (common_text ending.status) (session_files texts.certificate s))
             (sym keeps);
         counts = CountsReads-none found (solve_row found.holds (Some query) texts) ending.status quiet;
       })
 
 -- the ending of a session with this reply
-pub ends_session : (session : KeptSession) (reply : Result Answered AnswerStop) (name : Option (List ℕ))
+pub ends_session : (session : KeptSession) (reply : Result Answered AnswerStop) (text : List ℕ) (name : Option (List ℕ))
     (ending : Result Ending Memory) → session.reply ≡ reply
-    → IfOk ending (EndsSession (record { reply = reply; engine = session.engine }) name)
-    → IfOk ending (EndsSession session name)
-ends_session session reply name ending is ends =
+    → IfOk ending (EndsSession (record { reply = reply; engine = session.engine }) text name)
+    → IfOk ending (EndsSession session text name)
+ends_session session reply text name ending is ends =
     let P : Result Answered AnswerStop → Type 0 =
-    λ told. IfOk ending (EndsSession (record { reply = told; engine = session.engine }) name) in
+    λ told. IfOk ending (EndsSession (record { reply = told; engine = session.engine }) text name) in
     subst P (sym is) ends
 
 -- words that ask no query are refused
@@ -261,6 +302,125 @@ solve_unasked found by texts ending is quiet status kept text files =
     subst P (sym is)
     (IsEndingOf-stopped found unknown_row ending Usage (inr (refl, refl)) refl status kept text files
     (CountsReads-none found unknown_row Usage quiet))
+
+-- ---- frameworks whose arguments have names
+
+-- faults are counted in the role of the one input, and only where it ends the run by one
+named_counts : (found : Reading) (row : Row) (format : NameFormat) (file : List ℕ) (end : Status)
+    → row.inputs ≡ named_input format file ∷ []
+    → (end ≢ ReadFault (role.Framework 1) → found.new_count ≡ found.old_count)
+    → OtherCountsKept (role.Framework 1) found.old_count found.new_count → CountsReads found row end
+named_counts found row format file end are quiet others = record {
+  quiet = λ none. quiet (none (role.Framework 1));
+  others = λ other none. others other (none (named_input format file)
+      (let P : List Input → Type 0 = λ list. Contains list (named_input format file) in
+      subst P (sym are) (one_in (named_input format file))));
+}
+
+names_cause : (found : Reading) (naming : Naming) (texts : NamesTexts) (end : Status) → EndsNaming found naming texts end
+    → EndsCommand found (names_row found.holds (Some naming) texts) nothing_kept end
+names_cause found naming texts end (inl (inl stops)) = inl (refl, inl (inl (stops, follow_none found end)))
+names_cause found naming texts end (inl (inr memory)) = inl (refl, inr (memory, refl))
+names_cause found naming texts end (inr unnamed) =
+    inr (inr (record { keeps = refl; asks = unnamed.1; ends = unnamed.0 }))
+
+module _ (found : Reading) (by : Option Naming) (texts : NamesTexts) (ending : Ending) where
+  abbrev IsNamesEnding : Option Naming → Type 0
+  IsNamesEnding o = IsEndingOf found (names_row found.holds o texts) ending
+
+  -- words that ask no query by names are refused
+  pub names_unasked : by ≡ None → found.new_count ≡ found.old_count
+      → (ending.status ≡ Usage) ⊎ ((ending.status ≡ WantOfMemory) × IsRefusal Usage) → ending.kept ≡ nothing_kept
+      → Some (text_bytes ending.text) ≡ common_text ending.status → ending.files ≡ []
+      → IsEndingOf found (names_row found.holds by texts) ending
+  names_unasked is quiet status kept text files =
+      subst IsNamesEnding (sym is)
+      (IsEndingOf-stopped found unknown_row ending Usage (inr (refl, refl)) refl status kept text files
+      (CountsReads-none found unknown_row Usage quiet))
+
+  -- a query by names that stopped ends as its row says
+  pub names_stopped : (naming : Naming) (end : Status) → by ≡ Some naming → EndsNaming found naming texts end
+      → (end ≢ ReadFault (role.Framework 1) → found.new_count ≡ found.old_count)
+      → OtherCountsKept (role.Framework 1) found.old_count found.new_count
+      → (ending.status ≡ end) ⊎ ((ending.status ≡ WantOfMemory) × IsRefusal end) → ending.kept ≡ nothing_kept
+      → Some (text_bytes ending.text) ≡ common_text ending.status → ending.files ≡ []
+      → IsEndingOf found (names_row found.holds by texts) ending
+  names_stopped naming end is ends quiet others status kept text files =
+      let row = names_row found.holds (Some naming) texts in
+      subst IsNamesEnding (sym is)
+      (IsEndingOf-stopped found row ending end (names_cause found naming texts end ends) refl status kept text files
+      (named_counts found row naming.format texts.file end refl quiet others))
+
+  -- one that came to a session ends as its row says
+  pub names_session : (naming : Naming) (session : KeptSession) (said : List ℕ) → by ≡ Some naming
+      → AnswersNamedFile (found.holds texts.file) naming texts.name session said → found.new_count ≡ found.old_count
+      → EndsSession session said texts.certificate ending → IsEndingOf found (names_row found.holds by texts) ending
+  names_session naming session said is answers quiet ends =
+      let keeps : ending.kept.session ≡ Some session = ap (λ (k : Transcript). k.session) ends.keeps in
+      let row = names_row found.holds (Some naming) texts in
+      subst IsNamesEnding (sym is) (record {
+        cause = inr (inl (record {
+          session = session;
+          text = said;
+          keeps = ends.keeps;
+          answers = answers;
+          ends = ends.status;
+        }));
+        text = text_told (common_text ending.status) (row.Says ending.kept ending.status) (text_bytes ending.text) said
+            ends.text (record { session = session; keeps = keeps; answers = answers });
+        files = ends.files ∙ ap (λ s. files_beside (common_text ending.status) (session_files texts.certificate s))
+            (sym keeps);
+        counts = CountsReads-none found row ending.status quiet;
+      })
+
+af_cause : (found : Reading) (format : NameFormat) (texts : AfTexts) (end : Status)
+    → EndsReading found (named_input format texts.file) end
+    → EndsCommand found (af_row found.holds (Some format) texts) nothing_kept end
+af_cause found format texts end (inl stops) = inl (refl, inl (inl (stops, follow_none found end)))
+af_cause found format texts end (inr memory) = inl (refl, inr (memory, refl))
+
+module _ (found : Reading) (by : Option NameFormat) (texts : AfTexts) (ending : Ending) where
+  abbrev IsAfEnding : Option NameFormat → Type 0
+  IsAfEnding o = IsEndingOf found (af_row found.holds o texts) ending
+
+  -- words whose format is none are refused
+  pub af_unasked : by ≡ None → found.new_count ≡ found.old_count
+      → (ending.status ≡ Usage) ⊎ ((ending.status ≡ WantOfMemory) × IsRefusal Usage) → ending.kept ≡ nothing_kept
+      → Some (text_bytes ending.text) ≡ common_text ending.status → ending.files ≡ []
+      → IsEndingOf found (af_row found.holds by texts) ending
+  af_unasked is quiet status kept text files =
+      subst IsAfEnding (sym is)
+      (IsEndingOf-stopped found unknown_row ending Usage (inr (refl, refl)) refl status kept text files
+      (CountsReads-none found unknown_row Usage quiet))
+
+  -- a text with numbers that stopped ends as its row says
+  pub af_stopped : (format : NameFormat) (end : Status) → by ≡ Some format
+      → EndsReading found (named_input format texts.file) end
+      → (end ≢ ReadFault (role.Framework 1) → found.new_count ≡ found.old_count)
+      → OtherCountsKept (role.Framework 1) found.old_count found.new_count
+      → (ending.status ≡ end) ⊎ ((ending.status ≡ WantOfMemory) × IsRefusal end) → ending.kept ≡ nothing_kept
+      → Some (text_bytes ending.text) ≡ common_text ending.status → ending.files ≡ []
+      → IsEndingOf found (af_row found.holds by texts) ending
+  af_stopped format end is ends quiet others status kept text files =
+      let row = af_row found.holds (Some format) texts in
+      subst IsAfEnding (sym is)
+      (IsEndingOf-stopped found row ending end (af_cause found format texts end ends) refl status kept text files
+      (named_counts found row format texts.file end refl quiet others))
+
+  -- one that is done has the text
+  pub af_done : (format : NameFormat) (said : List ℕ) → by ≡ Some format
+      → IsNumberedOf (found.holds texts.file) format said → found.new_count ≡ found.old_count
+      → ending.status ≡ Done → ending.kept ≡ nothing_kept → text_bytes ending.text ≡ said → ending.files ≡ []
+      → IsEndingOf found (af_row found.holds by texts) ending
+  af_done format said is numbered quiet status kept text files =
+      let row = af_row found.holds (Some format) texts in
+      subst IsAfEnding (sym is) (record {
+        cause = inr (record { text = said; keeps = kept; is = numbered; ends = status });
+        text = text_done ending.status (row.Says ending.kept ending.status) (text_bytes ending.text) status
+            (subst (IsNumberedOf (found.holds texts.file) format) (sym text) numbered);
+        files = rw status (rw files refl);
+        counts = CountsReads-none found row ending.status quiet;
+      })
 
 -- ---- no row ends with a write fault
 
@@ -296,6 +456,18 @@ no_bench_fault : (large : Option LargeInput) (kept : Transcript) → ¬ (bench_r
 no_bench_fault None kept unasked = let e : WriteFault ≡ Usage = unasked.1 in cc
 no_bench_fault (Some large) kept runs = let e : WriteFault ≡ Done = runs.ends in cc
 
+no_names_fault : (holds : List ℕ → KnownFile) (by : Option Naming) (texts : NamesTexts) (kept : Transcript)
+    → ¬ (names_row holds by texts).Ends kept WriteFault
+no_names_fault holds None texts kept unasked = let e : WriteFault ≡ Usage = unasked.1 in cc
+no_names_fault holds (Some naming) texts kept (inl named) = no_reply_fault named.session.reply named.ends
+no_names_fault holds (Some naming) texts kept (inr unnamed) =
+    let e : WriteFault ≡ InputRefused UnknownName = unnamed.ends in cc
+
+no_af_fault : (holds : List ℕ → KnownFile) (by : Option NameFormat) (texts : AfTexts) (kept : Transcript)
+    → ¬ (af_row holds by texts).Ends kept WriteFault
+no_af_fault holds None texts kept unasked = let e : WriteFault ≡ Usage = unasked.1 in cc
+no_af_fault holds (Some format) texts kept numbered = let e : WriteFault ≡ Done = numbered.ends in cc
+
 no_row_fault : (found : Reading) (holds : List ℕ → KnownFile) (request : Request) (kept : Transcript)
     → ¬ EndsCommand found (row_of holds request) kept WriteFault
 no_row_fault found holds request kept (inl (nothing, inl stops)) =
@@ -309,6 +481,8 @@ no_row_fault found holds (checking texts) kept (inr ends) =
     no_check_fault holds (asked_by texts.task texts.number) texts kept ends
 no_row_fault found holds (living texts) kept (inr ends) = no_live_fault holds (budget_of texts.budget) texts kept ends
 no_row_fault found holds (benching texts) kept (inr ends) = no_bench_fault (large_by texts) kept ends
+no_row_fault found holds (by_name texts) kept (inr ends) = no_names_fault holds (naming_by texts) texts kept ends
+no_row_fault found holds (numbering texts) kept (inr ends) = no_af_fault holds (format_named texts.kind) texts kept ends
 no_row_fault found holds unknown kept (inr unasked) = let e : WriteFault ≡ Usage = unasked.1 in cc
 
 -- what is decided is no write fault

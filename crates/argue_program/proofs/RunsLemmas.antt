@@ -2,22 +2,30 @@
 use Rattle.std.proofs.Common.{◌≡◌, ◌≢◌, ◌∙◌, ◌⊎◌, ◌<◌, ◌≤◌, ℕ, List, [], ◌∷◌, length, refl, sym, ap, subst, inl}
 use Rattle.std.proofs.Common.{inr, ⊎_elim, true, Option, None, Some, Ok, map}
 use Rattle.std.specs.Io.KnownBytes.{Appends}
-use Rattle.std.specs.Option.{unwrap_or}
 use Rattle.argue_outside.specs.Outside.{FaultCounted, KnownFile}
 use Rattle.argue_outside.specs.declared.Role.{Role}
 use Rattle.argue_outside.specs.declared.Role.TheVariants.{Framework, Script as OfScript}
-use Rattle.argue_words.specs.Words.{AreWords, BenchTexts, CheckTexts, IsBenchQuery, IsCheckQuery, IsLiveQuery}
-use Rattle.argue_words.specs.Words.{IsSolveQuery, LiveTexts, Request, version, problems, solving, checking, living}
-use Rattle.argue_words.specs.Words.{benching, unknown, SolveTexts, requested, words_are_problems}
-use Rattle.argue_words.proofs.RequestLaws.{query_requested, requested_input, requested_list, requested_script}
-use Rattle.argue_words.proofs.RequestLaws.{requested_texts, requested_none, requested_query, requested_unknown}
+use Rattle.argue_words.specs.Words.{AfTexts, AreWords, BenchTexts, CheckTexts, IsAfQuery, IsBenchQuery, IsCheckQuery}
+use Rattle.argue_words.specs.Words.{IsLiveQuery, IsNamesQuery, IsSolveQuery, LiveTexts, NamesTexts, Request, SolveTexts}
+use Rattle.argue_words.specs.Words.{version, problems, solving, checking, living, benching, by_name, numbering, unknown}
+use Rattle.argue_words.specs.Words.{requested, words_are_problems}
+use Rattle.argue_words.proofs.RequestLaws.{names_requested_by, query_requested, requested_af, requested_input}
+use Rattle.argue_words.proofs.RequestLaws.{requested_list, requested_names, requested_none, requested_query}
+use Rattle.argue_words.proofs.RequestLaws.{requested_script, requested_texts, requested_unknown}
+use Rattle.apx_tgf.specs.declared.format.NameFormat.{NameFormat}
+use Rattle.named_commands.specs.NamedTexts.{named_reply}
+use Rattle.named_commands.specs.Namings.{format_named, naming_by, solving_of}
+use Rattle.named_commands.specs.Numberings.{IsNumberedOf}
+use Rattle.named_commands.specs.declared.naming.Naming.{Naming}
+use Rattle.semantics.specs.Framework.{Af}
+use Rattle.semantics.specs.Frameworks.{af}
 use Rattle.framework_text.specs.FrameworkText.{IsFaulty}
 use Rattle.argue_commands.specs.Inputs.{Input, Reading, StopsAt, StopsAtFirst}
 use Rattle.argue_commands.specs.Replacing.{FileText, certificate_files, file_text, WritesFiles}
-use Rattle.argue_program.specs.Rows.{EndsCommand, EndsLarge, EndsLive, EndsSolved, HasNoInput, Row, bench_row}
-use Rattle.argue_program.specs.Rows.{check_row, certificates_files, files_beside, live_row, reply_files}
-use Rattle.argue_program.specs.Rows.{reply_text, row_of, script_files, script_kept, script_text, session_files}
-use Rattle.argue_program.specs.Rows.{session_text, solve_row, text_of}
+use Rattle.argue_program.specs.Rows.{EndsCommand, EndsLarge, EndsLive, EndsNamed, EndsSolved, HasNoInput, IsTextOf, Row}
+use Rattle.argue_program.specs.Rows.{SaysNamed, WritesText, af_row, bench_row, check_row, certificates_files}
+use Rattle.argue_program.specs.Rows.{files_beside, live_row, names_row, reply_files, reply_text, row_of, script_files}
+use Rattle.argue_program.specs.Rows.{script_kept, script_text, session_files, session_text, solve_row}
 use Rattle.iccma_tasks.specs.Tasks.{Asked}
 use Rattle.argue_program.specs.LargeInputs.{large_by}
 use Rattle.argue_commands.specs.Queries.{asked_by, budget_of, solving_by}
@@ -43,7 +51,8 @@ use Rattle.argue_program.specs.Runs.{AnswersRight, AsksSession, AsksTranscript, 
 use Rattle.argue_program.specs.Runs.{IsCheckEnd, IsDoneOrMemory, IsFaultyScript, IsLiveEnd, IsRunOf, IsSolveEnd}
 use Rattle.argue_program.specs.Runs.{LivesContents, NamesCertificate, QueriesBytes, RefusesBytes, RefusesLength}
 use Rattle.argue_program.specs.Runs.{RefusesWords, ScriptsBytes, SolvesContents, SpendsBudget, WritesAnswer}
-use Rattle.argue_program.specs.Runs.{WritesSummary, WritesTranscript}
+use Rattle.argue_program.specs.Runs.{WritesSummary, WritesTranscript, IsFaultyNamed, IsNamesEnd, NamedBytes}
+use Rattle.argue_program.specs.Runs.{NamesContents, NumbersContents, RefusesNamed, WritesNamed, WritesNumbered}
 use Rattle.argue_commands.specs.Texts.{common_text, text_bytes}
 use Rattle.argue_program.specs.declared.ended.Ended.{Ended}
 use Rattle.argue_commands.specs.declared.ended.KeptSession.{KeptSession}
@@ -52,6 +61,7 @@ use Rattle.argue_commands.specs.declared.ended.Status.{Status}
 use Rattle.argue_commands.specs.declared.ended.Status.TheVariants.{Done, Usage, InputRefused, ReadFault}
 use Rattle.argue_commands.specs.declared.ended.Status.TheVariants.{WriteFault, WantOfMemory, Unknown, Limit}
 use Rattle.argue_commands.specs.declared.ended.Status.TheVariants.{Rejected}
+use Rattle.argue_commands.specs.declared.ended.Refusal.TheVariants.{UnknownName}
 use Rattle.argue_program.specs.declared.ended.Transcript.{Transcript}
 use Rattle.num_text.specs.declared.limit.TheConstants.{MAX_INPUT}
 use Rattle.argue_program.proofs.EndsLemmas.{EndsLiving, EndsQuery, at_query, done_no_memory, done_right}
@@ -59,7 +69,10 @@ use Rattle.argue_program.proofs.EndsLemmas.{ends_check, ends_live, ends_large, e
 use Rattle.argue_program.proofs.EndsLemmas.{ends_unknown, large_done, problems_done, refuses_bytes, refuses_length}
 use Rattle.argue_program.proofs.EndsLemmas.{refuses_long_script, refuses_script, refuses_words, version_done}
 use Rattle.argue_commands.proofs.ReplacingLemmas.{HaveOtherNames, written_other, broken_other}
-use Rattle.argue_program.proofs.KeptLemmas.{ending_other, kept_at, output_fault, script_at, write_fault_or}
+use Rattle.argue_program.proofs.KeptLemmas.{asks_name, asks_number, ending_other, kept_at, output_fault, script_at, some_is}
+use Rattle.argue_program.proofs.KeptLemmas.{write_fault_or}
+use Rattle.argue_program.proofs.NamesLemmas.{EndsAsking, EndsInFormat, af_is_done, asking_in, ends_asking, ends_names}
+use Rattle.argue_program.proofs.NamesLemmas.{ends_numbering, numbering_in, refuses_long_names, refuses_named}
 
 -- ---- a run that ends by its session alone
 
@@ -125,7 +138,7 @@ solve_why found words texts None kept end why asks query_is unasked =
 solve_why found words texts (Some query) kept end why asks query_is solved = record {
   session = solved.session;
   keeps = ap (λ (k : Transcript). k.session) solved.keeps;
-  asks = record { texts = texts; asks = asks; query = query; query_is = query_is; on = solved.on };
+  asks = asks_number words found.holds texts query solved.session asks query_is solved.on;
   ends = solved.ends;
 }
 
@@ -137,6 +150,25 @@ live_why holds (Some budget) texts kept end why lives = not_why end Done why (λ
 bench_why : (by : Option LargeInput) (kept : Transcript) (end : Status) → SaysWhy end → ¬ (bench_row by).Ends kept end
 bench_why None kept end why unasked = not_why end Usage why (λ w. w) unasked.1
 bench_why (Some large) kept end why ends = not_why end Done why (λ w. w) ends.ends
+
+names_why : (found : Reading) (words : List (List ℕ)) (texts : NamesTexts) (by : Option Naming) (kept : Transcript)
+    (end : Status) → SaysWhy end → IsNamesQuery words texts → naming_by texts ≡ by
+    → (names_row found.holds by texts).Ends kept end → KeepsAsked words found.holds kept end
+names_why found words texts None kept end why asks naming_is unasked =
+    absurd (not_why end Usage why (λ w. w) unasked.1)
+names_why found words texts (Some naming) kept end why asks naming_is (inr unnamed) =
+    absurd (not_why end (InputRefused UnknownName) why (λ w. w) unnamed.ends)
+names_why found words texts (Some naming) kept end why asks naming_is (inl named) = record {
+  session = named.session;
+  keeps = ap (λ (k : Transcript). k.session) named.keeps;
+  asks = asks_name words found.holds texts naming named.session named.text asks naming_is named.answers;
+  ends = named.ends;
+}
+
+af_why : (holds : List ℕ → KnownFile) (by : Option NameFormat) (texts : AfTexts) (kept : Transcript) (end : Status)
+    → SaysWhy end → ¬ (af_row holds by texts).Ends kept end
+af_why holds None texts kept end why unasked = not_why end Usage why (λ w. w) unasked.1
+af_why holds (Some format) texts kept end why numbered = not_why end Done why (λ w. w) numbered.ends
 
 keeps_asked : (found : Reading) (words : List (List ℕ)) (request : Request) (kept : Transcript) (end : Status)
     → SaysWhy end → requested words ≡ request → EndsCommand found (row_of found.holds request) kept end
@@ -154,14 +186,18 @@ keeps_asked found words (living texts) kept end why asked (inr ends) =
     absurd (live_why found.holds (budget_of texts.budget) texts kept end why ends)
 keeps_asked found words (benching texts) kept end why asked (inr ends) =
     absurd (bench_why (large_by texts) kept end why ends)
+keeps_asked found words (by_name texts) kept end why asked (inr ends) =
+    names_why found words texts (naming_by texts) kept end why (names_requested_by words texts asked) refl ends
+keeps_asked found words (numbering texts) kept end why asked (inr ends) =
+    absurd (af_why found.holds (format_named texts.kind) texts kept end why ends)
 keeps_asked found words (solving texts) kept end why asked (inr ends) =
     solve_why found words texts (solving_by texts) kept end why (query_requested words texts asked) refl ends
 
 spends_budget : (words : List (List ℕ)) (holds : List ℕ → KnownFile) (kept : Transcript)
     → KeepsAsked words holds kept Unknown → SpendsBudget words holds kept
 spends_budget words holds kept asked =
-    let on = asked.asks.on in
-    let all = spends_all on.framework asked.asks.query asked.session on.is asked.ends in
+    let asks = asked.asks in
+    let all = spends_all asks.framework asks.query asked.session asks.is asked.ends in
     record {
       session = asked.session;
       keeps = asked.keeps;
@@ -180,17 +216,20 @@ fills_log words holds kept asked = record {
   session = asked.session;
   keeps = asked.keeps;
   asks = asked.asks;
-  full = fills asked.asks.on.framework asked.asks.query asked.session asked.asks.on.is asked.ends;
+  full = fills asked.asks.framework asked.asks.query asked.session asked.asks.is asked.ends;
 }
 
 -- ---- a query that is answered
 
-session_text_is : (end : Status) (kept : Option KeptSession) (session : KeptSession) (reply : Answered) → end ≡ Done
-    → kept ≡ Some session → session.reply ≡ Ok reply
-    → unwrap_or (common_text end) (session_text kept) ≡ answer_text reply.answer
-session_text_is end kept session reply done keeps is =
-    ap (λ e. unwrap_or (common_text e) (session_text kept)) done
-    ∙ ap session_text keeps ∙ ap reply_text is
+-- the text of a run that is done is its row's
+said_done : (end : Status) (Says : List ℕ → Type 0) (text : List ℕ) → end ≡ Done → IsTextOf (common_text end) Says text
+    → Says text
+said_done end Says text done said =
+    let P : Status → Type 0 = λ e. IsTextOf (common_text e) Says text in subst P done said
+
+session_text_is : (kept : Option KeptSession) (session : KeptSession) (reply : Answered) → kept ≡ Some session
+    → session.reply ≡ Ok reply → session_text kept ≡ answer_text reply.answer
+session_text_is kept session reply keeps is = ap session_text keeps ∙ ap reply_text is
 
 session_files_is : (end : Status) (name : Option (List ℕ)) (kept : Option KeptSession) (session : KeptSession)
     (reply : Answered) → end ≡ Done → kept ≡ Some session → session.reply ≡ Ok reply
@@ -200,13 +239,6 @@ session_files_is end name kept session reply done keeps is =
     ∙ ap (session_files name) keeps ∙ ap (reply_files name) is
 
 -- ---- a script's run that is done
-
-script_text_is : (end : Status) (kept : Transcript) (transcript : ScriptTranscript) → end ≡ Done
-    → kept ≡ script_kept transcript
-    → unwrap_or (common_text end) (script_text kept.script) ≡ transcript_bytes transcript
-script_text_is end kept transcript done keeps =
-    ap (λ e. unwrap_or (common_text e) (script_text kept.script)) done
-    ∙ ap (λ (k : Transcript). script_text k.script) keeps
 
 script_files_is : (end : Status) (name : Option (List ℕ)) (kept : Transcript) (transcript : ScriptTranscript)
     → end ≡ Done → kept ≡ script_kept transcript
@@ -402,7 +434,7 @@ module _ (words : List (List ℕ)) (seen : Seen) (ended : Ended) (run : IsRunOf 
       ap (λ (k : Transcript). k.session) (sym run.kept ∙ solved.keeps) in
       let told = done_reply solved.on.framework query solved.session solved.on.is (sym done ∙ solved.ends) in
       let Says : Row → Type 0 = λ row.
-      (text_bytes run.ending.text ≡ text_of row run.ending.kept run.ending.status)
+      WritesText row run.ending.kept run.ending.status (text_bytes run.ending.text)
       × (map file_text run.ending.files
       ≡ files_beside (common_text run.ending.status) (row.files run.ending.kept run.ending.status)) in
       let P : Request → Type 0 = λ r. Says (row_of seen.files.holds r) in
@@ -410,7 +442,8 @@ module _ (words : List (List ℕ)) (seen : Seen) (ended : Ended) (run : IsRunOf 
       let says = subst Q query_is
       (subst P (requested_query words texts asks) (run.decided.text, run.decided.files)) in
       let text : text_bytes run.ending.text ≡ answer_text told.reply.answer =
-      says.0 ∙ session_text_is run.ending.status run.ending.kept.session solved.session told.reply status keeps told.is
+      said_done run.ending.status (λ t. t ≡ session_text run.ending.kept.session) (text_bytes run.ending.text) status
+      says.0 ∙ session_text_is run.ending.kept.session solved.session told.reply keeps told.is
       in
       let files : map file_text run.ending.files ≡ certificate_files texts.certificate told.reply.certificate =
       says.1
@@ -514,7 +547,7 @@ module _ (words : List (List ℕ)) (seen : Seen) (ended : Ended) (run : IsRunOf 
       let status : run.ending.status ≡ Done = sym both.0 ∙ done in
       let keeps : run.ending.kept ≡ script_kept lives.transcript = sym run.kept ∙ lives.keeps in
       let Says : Row → Type 0 = λ row.
-      (text_bytes run.ending.text ≡ text_of row run.ending.kept run.ending.status)
+      WritesText row run.ending.kept run.ending.status (text_bytes run.ending.text)
       × (map file_text run.ending.files
       ≡ files_beside (common_text run.ending.status) (row.files run.ending.kept run.ending.status)) in
       let P : Request → Type 0 = λ r. Says (row_of seen.files.holds r) in
@@ -522,7 +555,8 @@ module _ (words : List (List ℕ)) (seen : Seen) (ended : Ended) (run : IsRunOf 
       let says = subst Q budget_is
       (subst P (requested_script words texts asks) (run.decided.text, run.decided.files)) in
       let text : text_bytes run.ending.text ≡ transcript_bytes lives.transcript =
-      says.0 ∙ script_text_is run.ending.status run.ending.kept lives.transcript status keeps in
+      said_done run.ending.status (λ t. t ≡ script_text run.ending.kept.script) (text_bytes run.ending.text) status
+      says.0 ∙ ap (λ (k : Transcript). script_text k.script) keeps in
       let files : map file_text run.ending.files ≡ certificates_files texts.certificate lives.transcript =
       says.1 ∙ script_files_is run.ending.status texts.certificate run.ending.kept lives.transcript status keeps in
       record {
@@ -586,7 +620,7 @@ module _ (words : List (List ℕ)) (seen : Seen) (ended : Ended) (run : IsRunOf 
       let both = run.whole (λ e. let x : Done ≡ WriteFault = sym done ∙ e in cc) in
       let status : run.ending.status ≡ Done = sym both.0 ∙ done in
       let Says : Row → Type 0 = λ row.
-      (text_bytes run.ending.text ≡ text_of row run.ending.kept run.ending.status)
+      WritesText row run.ending.kept run.ending.status (text_bytes run.ending.text)
       × (map file_text run.ending.files
       ≡ files_beside (common_text run.ending.status) (row.files run.ending.kept run.ending.status)) in
       let P : Request → Type 0 = λ r. Says (row_of seen.files.holds r) in
@@ -594,7 +628,8 @@ module _ (words : List (List ℕ)) (seen : Seen) (ended : Ended) (run : IsRunOf 
       let says = subst Q large_is
       (subst P (requested_input words texts asks) (run.decided.text, run.decided.files)) in
       let text : text_bytes run.ending.text ≡ summary large.arguments large.seed =
-      says.0 ∙ ap (λ e. unwrap_or (common_text e) (summary large.arguments large.seed)) status in
+      said_done run.ending.status (λ t. t ≡ summary large.arguments large.seed) (text_bytes run.ending.text) status
+      says.0 in
       let files : map file_text run.ending.files ≡ [] =
       says.1 ∙ ap (λ e. files_beside (common_text e) []) status in
       record {
@@ -623,6 +658,202 @@ module _ (words : List (List ℕ)) (seen : Seen) (ended : Ended) (run : IsRunOf 
       at_done_large texts (large_by texts) asks refl done
       (subst P done (at_bench texts (large_by texts) asks refl (λ e. let x : Done ≡ WriteFault = sym done ∙ e in cc)))
 
+  -- ---- queries by names
+
+  -- at a query by names, the row is that of what the words ask
+  at_names : (texts : NamesTexts) (by : Option Naming) → IsNamesQuery words texts → naming_by texts ≡ by
+      → ended.status ≢ WriteFault
+      → EndsCommand seen.files (names_row seen.files.holds by texts) ended.kept ended.status
+  at_names texts by asks naming_is whole =
+      let P : Request → Type 0 = λ r. EndsCommand seen.files (row_of seen.files.holds r) ended.kept ended.status in
+      let Q : Option Naming → Type 0 =
+      λ o. EndsCommand seen.files (names_row seen.files.holds o texts) ended.kept ended.status in
+      subst Q naming_is (subst P (requested_names words texts asks) (ends whole))
+
+  asks_on : (texts : NamesTexts) (naming : Naming) → IsNamesQuery words texts → naming_by texts ≡ Some naming
+      → ended.status ≢ WriteFault → EndsAsking seen.files texts naming ended.kept ended.status
+  asks_on texts naming asks naming_is whole =
+      ends_asking seen.files texts naming ended.kept ended.status (at_names texts (Some naming) asks naming_is whole)
+
+  complete_named : (texts : NamesTexts) (naming : Naming) (names : List (List ℕ)) (f : Af)
+      → NamesContents seen.files words texts naming names f
+      → IsNamesEnd names f naming texts.name ended.kept ended.status
+  complete_named texts naming names f contents = ⊎_elim
+      (λ broken. let P : Status → Type 0 = IsNamesEnd names f naming texts.name ended.kept in subst P (sym broken) tt)
+      (λ whole. ends_names seen.files words texts naming names f contents ended.kept ended.status
+      (asks_on texts naming contents.asks contents.naming_is whole)) (write_fault_or ended.status)
+
+  -- a query by names that there isn't is refused
+  no_named : (texts : NamesTexts) → IsNamesQuery words texts → naming_by texts ≡ None → RefusesWords ended.status
+  no_named texts asks none =
+      refuses_words seen.files ended.kept ended.status (λ whole. at_names texts None asks none whole)
+
+  written_named : (texts : NamesTexts) (naming : Naming) → IsNamesQuery words texts → naming_by texts ≡ Some naming
+      → ended.status ≡ Done → EndsNamed (seen.files.holds texts.file) naming texts.name ended.kept ended.status
+      → WritesNamed seen texts
+  written_named texts naming asks naming_is done named =
+      let both = run.whole (λ e. let x : Done ≡ WriteFault = sym done ∙ e in cc) in
+      let status : run.ending.status ≡ Done = sym both.0 ∙ done in
+      let Says : Row → Type 0 = λ row.
+      WritesText row run.ending.kept run.ending.status (text_bytes run.ending.text)
+      × (map file_text run.ending.files
+      ≡ files_beside (common_text run.ending.status) (row.files run.ending.kept run.ending.status)) in
+      let P : Request → Type 0 = λ r. Says (row_of seen.files.holds r) in
+      let Q : Option Naming → Type 0 = λ o. Says (names_row seen.files.holds o texts) in
+      let says = subst Q naming_is
+      (subst P (requested_names words texts asks) (run.decided.text, run.decided.files)) in
+      let said : SaysNamed (seen.files.holds texts.file) naming texts.name run.ending.kept (text_bytes run.ending.text) =
+      said_done run.ending.status (SaysNamed (seen.files.holds texts.file) naming texts.name run.ending.kept)
+      (text_bytes run.ending.text) status says.0 in
+      let keeps : run.ending.kept.session ≡ Some named.session =
+      ap (λ (k : Transcript). k.session) (sym run.kept ∙ named.keeps) in
+      let same : named.session ≡ said.session = some_is (sym keeps ∙ said.keeps) in
+      let answers = said.answers.answers in
+      let ends_so : Done ≡ status_of said.session.reply =
+      sym done ∙ named.ends ∙ ap (λ (s : KeptSession). status_of s.reply) same in
+      let told = done_reply (af answers.framework) (solving_of naming answers.asked) said.session answers.is ends_so in
+      let text = answers.text_is ∙ ap (named_reply answers.names) told.is in
+      let files : map file_text run.ending.files ≡ certificate_files texts.certificate told.reply.certificate =
+      says.1
+      ∙ session_files_is run.ending.status texts.certificate run.ending.kept.session said.session told.reply status
+      said.keeps told.is in
+      record {
+        naming = naming;
+        naming_is = naming_is;
+        names = answers.names;
+        framework = answers.framework;
+        of_framework = record { bytes = said.answers.bytes; has = said.answers.has; reads = answers.reads };
+        one_to_one = answers.one_to_one;
+        asked = answers.asked;
+        asks = answers.asks;
+        reply = told.reply;
+        replies = told.replies;
+        text = subst (Appends seen.before.contents seen.after.contents) text both.1.text;
+        files = subst (λ list. WritesFiles list seen.before.holds seen.after.holds) files both.1.files;
+      }
+
+  at_done_named : (texts : NamesTexts) (by : Option Naming) → IsNamesQuery words texts → naming_by texts ≡ by
+      → ended.status ≡ Done → EndsCommand seen.files (names_row seen.files.holds by texts) ended.kept Done
+      → WritesNamed seen texts
+  at_done_named texts None asks naming_is done cause =
+      absurd (ends_unknown seen.files ended.kept Done (λ e. cc) (λ e. cc) cause)
+  at_done_named texts (Some naming) asks naming_is done cause =
+      from_asking (ends_asking seen.files texts naming ended.kept Done cause)
+    where
+      from_asking : EndsAsking seen.files texts naming ended.kept Done → WritesNamed seen texts
+      from_asking (inl stops) = absurd stops
+      from_asking (inr (inl is)) = absurd (done_no_memory is)
+      from_asking (inr (inr (inl named))) =
+          written_named texts naming asks naming_is done
+          (subst (EndsNamed (seen.files.holds texts.file) naming texts.name ended.kept) (sym done) named)
+      from_asking (inr (inr (inr unnamed))) =
+          absurd (let e : Done ≡ InputRefused UnknownName = unnamed.ends in cc)
+
+  -- a query by names that is done writes a right answer by names, and an accepted certificate where a file is named
+  named_written : (texts : NamesTexts) → IsNamesQuery words texts → ended.status ≡ Done → WritesNamed seen texts
+  named_written texts asks done =
+      let P : Status → Type 0 =
+      λ e. EndsCommand seen.files (names_row seen.files.holds (naming_by texts) texts) ended.kept e in
+      at_done_named texts (naming_by texts) asks refl done
+      (subst P done (at_names texts (naming_by texts) asks refl (λ e. let x : Done ≡ WriteFault = sym done ∙ e in cc)))
+
+  -- ---- texts with numbers
+
+  -- at a text with numbers, the row is that of its format
+  at_af : (texts : AfTexts) (by : Option NameFormat) → IsAfQuery words texts → format_named texts.kind ≡ by
+      → ended.status ≢ WriteFault
+      → EndsCommand seen.files (af_row seen.files.holds by texts) ended.kept ended.status
+  at_af texts by asks format_is whole =
+      let P : Request → Type 0 = λ r. EndsCommand seen.files (row_of seen.files.holds r) ended.kept ended.status in
+      let Q : Option NameFormat → Type 0 =
+      λ o. EndsCommand seen.files (af_row seen.files.holds o texts) ended.kept ended.status in
+      subst Q format_is (subst P (requested_af words texts asks) (ends whole))
+
+  complete_numbered : (texts : AfTexts) (format : NameFormat) (names : List (List ℕ)) (f : Af)
+      → NumbersContents seen.files words texts format names f → ended.status ≢ WriteFault
+      → IsDoneOrMemory ended.status
+  complete_numbered texts format names f contents whole =
+      af_is_done seen.files words texts format names f ended.kept ended.status contents
+      (ends_numbering seen.files texts format ended.kept ended.status
+      (at_af texts (Some format) contents.asks contents.format_is whole))
+
+  -- a format that there isn't is refused
+  no_numbered : (texts : AfTexts) → IsAfQuery words texts → format_named texts.kind ≡ None → RefusesWords ended.status
+  no_numbered texts asks none =
+      refuses_words seen.files ended.kept ended.status (λ whole. at_af texts None asks none whole)
+
+  written_numbered : (texts : AfTexts) (format : NameFormat) → IsAfQuery words texts
+      → format_named texts.kind ≡ Some format → ended.status ≡ Done → WritesNumbered seen texts
+  written_numbered texts format asks format_is done =
+      let both = run.whole (λ e. let x : Done ≡ WriteFault = sym done ∙ e in cc) in
+      let status : run.ending.status ≡ Done = sym both.0 ∙ done in
+      let Says : Row → Type 0 = λ row.
+      WritesText row run.ending.kept run.ending.status (text_bytes run.ending.text)
+      × (map file_text run.ending.files
+      ≡ files_beside (common_text run.ending.status) (row.files run.ending.kept run.ending.status)) in
+      let P : Request → Type 0 = λ r. Says (row_of seen.files.holds r) in
+      let Q : Option NameFormat → Type 0 = λ o. Says (af_row seen.files.holds o texts) in
+      let says = subst Q format_is (subst P (requested_af words texts asks) (run.decided.text, run.decided.files)) in
+      let files : map file_text run.ending.files ≡ [] =
+      says.1 ∙ ap (λ e. files_beside (common_text e) []) status in
+      record {
+        format = format;
+        format_is = format_is;
+        text = text_bytes run.ending.text;
+        is = said_done run.ending.status (IsNumberedOf (seen.files.holds texts.file) format) (text_bytes run.ending.text)
+            status says.0;
+        gains = both.1.text;
+        no_file = subst (λ list. WritesFiles list seen.before.holds seen.after.holds) files both.1.files;
+      }
+
+  at_done_numbered : (texts : AfTexts) (by : Option NameFormat) → IsAfQuery words texts → format_named texts.kind ≡ by
+      → ended.status ≡ Done → EndsCommand seen.files (af_row seen.files.holds by texts) ended.kept Done
+      → WritesNumbered seen texts
+  at_done_numbered texts None asks format_is done cause =
+      absurd (ends_unknown seen.files ended.kept Done (λ e. cc) (λ e. cc) cause)
+  at_done_numbered texts (Some format) asks format_is done cause = written_numbered texts format asks format_is done
+
+  -- a text with numbers that is done is written
+  numbered_written : (texts : AfTexts) → IsAfQuery words texts → ended.status ≡ Done → WritesNumbered seen texts
+  numbered_written texts asks done =
+      let P : Status → Type 0 =
+      λ e. EndsCommand seen.files (af_row seen.files.holds (format_named texts.kind) texts) ended.kept e in
+      at_done_numbered texts (format_named texts.kind) asks refl done
+      (subst P done (at_af texts (format_named texts.kind) asks refl (λ e. let x : Done ≡ WriteFault =
+      sym done ∙ e in cc)))
+
+  -- ---- texts with names
+
+  -- how a command on a file in this format may end
+  in_format : (format : NameFormat) (file bytes : List ℕ) → NamedBytes seen.files words format file bytes
+      → ended.status ≢ WriteFault → EndsInFormat seen.files format file ended.status
+  in_format format file bytes asks whole = ⊎_elim
+      (λ named. subst (λ path. EndsInFormat seen.files format path ended.status) named.file_is
+      (subst (λ form. EndsInFormat seen.files form named.texts.file ended.status) named.format_is
+      (asking_in seen.files named.texts named.naming ended.kept ended.status
+      (asks_on named.texts named.naming named.asks named.naming_is whole))))
+      (λ numbered. subst (λ path. EndsInFormat seen.files format path ended.status) numbered.file_is
+      (numbering_in seen.files numbered.texts format ended.kept ended.status
+      (ends_numbering seen.files numbered.texts format ended.kept ended.status
+      (at_af numbered.texts (Some format) numbered.asks numbered.format_is whole))))
+      asks.asks
+
+  faulty_named : (format : NameFormat) (file bytes : List ℕ) → NamedBytes seen.files words format file bytes
+      → IsFaultyNamed format bytes → length bytes ≤ MAX_INPUT → RefusesNamed format bytes ended.status
+  faulty_named format file bytes asks bad short = ⊎_elim
+      (λ broken. let P : Status → Type 0 = RefusesNamed format bytes in subst P (sym broken) tt)
+      (λ whole. refuses_named seen.files format file bytes asks.known
+      (λ h. ⊎_elim (λ served. h.unserved served) (λ uncounted. uncounted h.counted) asks.no_fault) ended.status bad short
+      (in_format format file bytes asks whole)) (write_fault_or ended.status)
+
+  long_named : (format : NameFormat) (file bytes : List ℕ) → NamedBytes seen.files words format file bytes
+      → MAX_INPUT < length bytes → RefusesLength ended.status
+  long_named format file bytes asks long = ⊎_elim
+      (λ broken. subst RefusesLength (sym broken) tt)
+      (λ whole. refuses_long_names seen.files format file bytes asks.known
+      (λ h. ⊎_elim (λ served. h.unserved served) (λ uncounted. uncounted h.counted) asks.no_fault) ended.status long
+      (in_format format file bytes asks whole)) (write_fault_or ended.status)
+
   -- ---- all of it
 
   pub promises : Promises words seen ended
@@ -650,6 +881,14 @@ module _ (words : List (List ℕ)) (seen : Seen) (ended : Ended) (run : IsRunOf 
     accepted = accepted;
     checked = checked;
     unasked = unasked;
+    named = named_written;
+    complete_names = complete_named;
+    no_naming = no_named;
+    numbered = numbered_written;
+    complete_af = complete_numbered;
+    no_format = no_numbered;
+    faulty_names = faulty_named;
+    long_names = long_named;
     write_fault = write_fault;
     output_fault = output_fails;
     other_files = other_files;

@@ -1,7 +1,6 @@
 -- What a script's run ends with.
 use Rattle.std.proofs.Common.{◌≡◌, ◌≢◌, ◌∙◌, ◌⊎◌, ℕ, arith, List, [], refl, sym, ap, subst, inl, inr, Option, None, Some, Result, Ok, Err}
 use Rattle.std.specs.Prelude.{IfOk}
-use Rattle.std.specs.Option.{unwrap_or}
 use Rattle.argue_outside.specs.declared.Role.{Role}
 use Rattle.argue_outside.specs.declared.Role.TheVariants as role
 use Rattle.argue_words.specs.Words.{LiveTexts}
@@ -20,7 +19,7 @@ use Rattle.argue_commands.specs.declared.ended.Status.{Status}
 use Rattle.argue_commands.specs.declared.ended.Status.TheVariants.{Usage, ReadFault, WantOfMemory}
 use Rattle.argue_program.specs.declared.ended.Transcript.{Transcript}
 use Rattle.argue_commands.specs.declared.opening.Opened.{Opened}
-use Rattle.argue_program.proofs.RowsLemmas.{CountsReads-none, IsEndingOf-stopped}
+use Rattle.argue_program.proofs.RowsLemmas.{CountsReads-none, IsEndingOf-stopped, text_done}
 
 -- ---- endings of the row
 
@@ -90,9 +89,8 @@ module _ (found : Reading) (by : Option ℕ) (texts : LiveTexts) (ending : Endin
           };
           ends = ends.status;
         });
-        text = ends.text
-            ∙ sym (ap (λ e. unwrap_or (common_text e) (script_text ending.kept.script)) ends.status
-            ∙ ap script_text keeps);
+        text = text_done ending.status (λ t. t ≡ script_text ending.kept.script) (text_bytes ending.text) ends.status
+            (ends.text ∙ sym (ap script_text keeps));
         files = ends.files
             ∙ sym (ap (λ e. files_beside (common_text e) (script_files texts.certificate ending.kept.script)) ends.status
             ∙ ap (script_files texts.certificate) keeps);

@@ -3,10 +3,15 @@ use Rattle.std.specs.Prelude.{◌≡◌, ◌≢◌, ℕ, ◌⊎◌, ◌<◌, ◌
 use Rattle.argue_outside.specs.Outside.{FaultCounted}
 use Rattle.argue_outside.specs.declared.Role.{Role}
 use Rattle.argue_outside.specs.declared.Role.TheVariants as role
+use Rattle.semantics.specs.Framework.{Af}
 use Rattle.semantics.specs.Frameworks.{Framework}
 use Rattle.num_text.specs.declared.limit.TheConstants.{MAX_INPUT}
-use Rattle.argue_words.specs.Words.{AreWords, BenchTexts, CheckTexts, IsBenchQuery, IsCheckQuery, IsLiveQuery}
-use Rattle.argue_words.specs.Words.{IsSolveQuery, LiveTexts, SolveTexts, requested, words_are_problems}
+use Rattle.argue_words.specs.Words.{AfTexts, AreWords, BenchTexts, CheckTexts, IsAfQuery, IsBenchQuery, IsCheckQuery}
+use Rattle.argue_words.specs.Words.{IsLiveQuery, IsNamesQuery, IsSolveQuery, LiveTexts, NamesTexts, SolveTexts}
+use Rattle.argue_words.specs.Words.{requested, words_are_problems}
+use Rattle.apx_tgf.specs.declared.format.NameFormat.{NameFormat}
+use Rattle.named_commands.specs.Namings.{format_named, naming_by}
+use Rattle.named_commands.specs.declared.naming.Naming.{Naming}
 use Rattle.iccma_tasks.specs.Tasks.{Asked}
 use Rattle.iccma_tasks.specs.declared.answer.Answer.{Answer}
 use Rattle.certificate_claims.specs.declared.certificate.Certificate.{Certificate}
@@ -21,6 +26,8 @@ use Rattle.argue_commands.specs.declared.query.Solving.{Solving}
 use Rattle.argue_program.specs.LargeInputs.{large_by}
 use Rattle.argue_program.specs.Rows.{HasNoInput, row_of}
 use Rattle.argue_program.specs.Runs.{AnswersRight, AsksSession, AsksTranscript, ChecksContents, FillsLog}
+use Rattle.argue_program.specs.Runs.{IsFaultyNamed, IsNamesEnd, NamedBytes, NamesContents, NumbersContents}
+use Rattle.argue_program.specs.Runs.{RefusesNamed, WritesNamed, WritesNumbered}
 use Rattle.argue_program.specs.Runs.{IsCheckEnd, IsDoneOrMemory, IsFaultyScript, IsLiveEnd, IsSolveEnd}
 use Rattle.argue_program.specs.Runs.{LivesContents, NamesCertificate, QueriesBytes, RefusesBytes, RefusesLength}
 use Rattle.argue_program.specs.Runs.{RefusesWords, ScriptsBytes, SolvesContents, SpendsBudget, WritesAnswer}
@@ -105,6 +112,30 @@ pub record Promises (words : List (List ℕ)) (seen : Seen) (ended : Ended) : Ty
   -- one that asks no query is refused
   pub unasked : (texts : CheckTexts) → IsCheckQuery words texts → asked_by texts.task texts.number ≡ None
       → RefusesWords ended.status
+  -- ---- queries by names, and texts with numbers
+  -- a query by names that is done has written a right answer by names, and an accepted certificate where a file is named
+  pub named : (texts : NamesTexts) → IsNamesQuery words texts → ended.status ≡ Done → WritesNamed seen texts
+  -- one on a file that reads as a framework with names ends as its session's reply says, or is refused for its name
+  pub complete_names : (texts : NamesTexts) (naming : Naming) (names : List (List ℕ)) (f : Af)
+      → NamesContents seen.files words texts naming names f
+      → IsNamesEnd names f naming texts.name ended.kept ended.status
+  -- one that there isn't is refused
+  pub no_naming : (texts : NamesTexts) → IsNamesQuery words texts → naming_by texts ≡ None → RefusesWords ended.status
+  -- a text with numbers that is done has been written
+  pub numbered : (texts : AfTexts) → IsAfQuery words texts → ended.status ≡ Done → WritesNumbered seen texts
+  -- one of a file that reads as a framework with names is done
+  pub complete_af : (texts : AfTexts) (format : NameFormat) (names : List (List ℕ)) (f : Af)
+      → NumbersContents seen.files words texts format names f → ended.status ≢ WriteFault
+      → IsDoneOrMemory ended.status
+  -- one in a format that there isn't is refused
+  pub no_format : (texts : AfTexts) → IsAfQuery words texts → format_named texts.kind ≡ None
+      → RefusesWords ended.status
+  -- a file of either with a fault is refused by its first
+  pub faulty_names : (format : NameFormat) (file bytes : List ℕ) → NamedBytes seen.files words format file bytes
+      → IsFaultyNamed format bytes → length bytes ≤ MAX_INPUT → RefusesNamed format bytes ended.status
+  -- one over the limit is refused for its length
+  pub long_names : (format : NameFormat) (file bytes : List ℕ) → NamedBytes seen.files words format file bytes
+      → MAX_INPUT < length bytes → RefusesLength ended.status
   -- ---- faults and files
   -- a write fault was counted
   pub write_fault : ended.status ≡ WriteFault

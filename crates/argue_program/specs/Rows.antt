@@ -7,7 +7,8 @@ use Rattle.bench_runs.specs.oracle_core.specs.declared.reply.AnswerStop.{AnswerS
 use Rattle.bench_runs.specs.oracle_core.specs.declared.reply.Answered.{Answered}
 use Rattle.argue_outside.specs.declared.Role.{Role}
 use Rattle.argue_outside.specs.declared.Role.TheVariants.{Framework}
-use Rattle.argue_words.specs.Words.{CheckTexts, LiveTexts, Request, version, problems, solving, checking, living, benching, unknown, SolveTexts}
+use Rattle.argue_words.specs.Words.{AfTexts, CheckTexts, LiveTexts, NamesTexts, Request, SolveTexts, version, problems}
+use Rattle.argue_words.specs.Words.{solving, checking, living, benching, by_name, numbering, unknown}
 use Rattle.iccma_tasks.specs.Tasks.{Asked, tasks_line}
 use Rattle.argue_commands.specs.Checks.{ChecksFiles, check_inputs}
 use Rattle.argue_program.specs.LargeInputs.{large_by}
@@ -17,13 +18,18 @@ use Rattle.argue_program.specs.Scripts.{RunsScript, transcript_bytes}
 use Rattle.argue_commands.specs.Solves.{IsSessionOn, status_of}
 use Rattle.argue_program.specs.declared.large.LargeInput.{LargeInput}
 use Rattle.argue_commands.specs.declared.query.Solving.{Solving}
-use Rattle.argue_commands.specs.Inputs.{Input, Reading, StopsAtFirst, input}
+use Rattle.apx_tgf.specs.declared.format.NameFormat.{NameFormat}
+use Rattle.argue_commands.specs.Inputs.{Input, Reading, StopsAtFirst, input, named_input}
+use Rattle.argue_commands.specs.declared.ended.Refusal.TheVariants.{UnknownName}
+use Rattle.named_commands.specs.Namings.{AnswersNamedFile, AsksUnknownOf, format_named, naming_by}
+use Rattle.named_commands.specs.Numberings.{IsNumberedOf}
+use Rattle.named_commands.specs.declared.naming.Naming.{Naming}
 use Rattle.argue_commands.specs.Replacing.{FileText, certificate_files, file_text}
 use Rattle.argue_commands.specs.Texts.{common_text, text_bytes}
 use Rattle.argue_program.specs.declared.ending.Ending.{Ending}
 use Rattle.argue_commands.specs.declared.ended.KeptSession.{KeptSession}
 use Rattle.argue_commands.specs.declared.ended.Status.{Status}
-use Rattle.argue_commands.specs.declared.ended.Status.TheVariants.{Done, Usage, ReadFault, WantOfMemory}
+use Rattle.argue_commands.specs.declared.ended.Status.TheVariants.{Done, Usage, InputRefused, ReadFault, WantOfMemory}
 use Rattle.argue_program.specs.declared.ended.Transcript.{Transcript}
 use Rattle.bench_runs.specs.Runs.{IsBenchRun}
 use Rattle.bench_runs.specs.Summaries.{summary}
@@ -39,7 +45,7 @@ pub record Row : Type 1 where
   pub inputs : List Input  -- in the order of reading
   pub takes_memory : Bool  -- it may end for want of memory
   pub Ends : Transcript → Status → Type 0  -- how it may end, and what it keeps, once its inputs are read and sound
-  pub text : Transcript → Status → List ℕ  -- what it then writes, where the status has no text of its own
+  pub Says : Transcript → Status → List ℕ → Type 0  -- the text that it then writes, where the status has none of its own
   pub files : Transcript → Status → List FileText  -- the files that it then writes, before the text and in this order
 
 -- a run that keeps nothing
@@ -96,7 +102,7 @@ version_row = record {
   inputs = [];
   takes_memory = false;
   Ends = EndsDone;
-  text = λ kept end. codes "argue 1.0\n";
+  Says = λ kept end text. text ≡ codes "argue 1.0\n";
   files = λ kept end. [];
 }
 
@@ -105,7 +111,7 @@ unknown_row = record {
   inputs = [];
   takes_memory = true;
   Ends = EndsUnasked;
-  text = λ kept end. [];
+  Says = λ kept end text. text ≡ [];
   files = λ kept end. [];
 }
 
@@ -115,7 +121,7 @@ problems_row = record {
   inputs = [];
   takes_memory = true;
   Ends = EndsDone;
-  text = λ kept end. tasks_line;
+  Says = λ kept end text. text ≡ tasks_line;
   files = λ kept end. [];
 }
 
@@ -126,7 +132,7 @@ solve_row holds (Some query) texts = record {
   inputs = input (Framework 1) texts.file ∷ [];
   takes_memory = true;
   Ends = EndsSolved (holds texts.file) query;
-  text = λ kept end. session_text kept.session;
+  Says = λ kept end text. text ≡ session_text kept.session;
   files = λ kept end. session_files texts.certificate kept.session;
 }
 
@@ -141,7 +147,7 @@ check_row holds (Some asked) texts = record {
   inputs = check_inputs texts;
   takes_memory = true;
   Ends = EndsChecked holds asked texts;
-  text = λ kept end. codes "ACCEPTED\n";
+  Says = λ kept end text. text ≡ codes "ACCEPTED\n";
   files = λ kept end. [];
 }
 
@@ -176,7 +182,7 @@ live_row holds (Some budget) texts = record {
   inputs = live_inputs texts;
   takes_memory = true;
   Ends = EndsLive holds budget texts;
-  text = λ kept end. script_text kept.script;
+  Says = λ kept end text. text ≡ script_text kept.script;
   files = λ kept end. script_files texts.certificate kept.script;
 }
 
@@ -194,7 +200,60 @@ bench_row (Some large) = record {
   inputs = [];
   takes_memory = true;
   Ends = EndsLarge large;
-  text = λ kept end. summary large.arguments large.seed;
+  Says = λ kept end text. text ≡ summary large.arguments large.seed;
+  files = λ kept end. [];
+}
+
+-- it keeps the session of the query by names, and ends as its reply says
+pub record EndsNamed (known : KnownFile) (naming : Naming) (name : Option (List ℕ)) (kept : Transcript) (end : Status)
+    : Type 0 where
+  pub session : KeptSession
+  pub text : List ℕ
+  pub keeps : kept ≡ session_kept session
+  pub answers : AnswersNamedFile known naming name session text
+  pub ends : end ≡ status_of session.reply
+
+-- it keeps nothing, and the name that is asked about is none
+pub record EndsUnnamed (known : KnownFile) (naming : Naming) (name : Option (List ℕ)) (kept : Transcript) (end : Status)
+    : Type 0 where
+  pub keeps : kept ≡ nothing_kept
+  pub asks : AsksUnknownOf known naming name
+  pub ends : end ≡ InputRefused UnknownName
+
+-- the text is that of the answer of the session that is kept, by names
+pub record SaysNamed (known : KnownFile) (naming : Naming) (name : Option (List ℕ)) (kept : Transcript) (text : List ℕ)
+    : Type 0 where
+  pub session : KeptSession
+  pub keeps : kept.session ≡ Some session
+  pub answers : AnswersNamedFile known naming name session text
+
+-- the answer to a query by names, or words that ask none
+abbrev pub names_row : (List ℕ → KnownFile) → Option Naming → NamesTexts → Row
+names_row holds None texts = unknown_row
+names_row holds (Some naming) texts = record {
+  inputs = named_input naming.format texts.file ∷ [];
+  takes_memory = true;
+  Ends = λ kept end. EndsNamed (holds texts.file) naming texts.name kept end
+      ⊎ EndsUnnamed (holds texts.file) naming texts.name kept end;
+  Says = λ kept end text. SaysNamed (holds texts.file) naming texts.name kept text;
+  files = λ kept end. session_files texts.certificate kept.session;
+}
+
+-- it is done, and keeps nothing: the framework in the file has a text with numbers
+pub record EndsNumbered (known : KnownFile) (format : NameFormat) (kept : Transcript) (end : Status) : Type 0 where
+  pub text : List ℕ
+  pub keeps : kept ≡ nothing_kept
+  pub is : IsNumberedOf known format text
+  pub ends : end ≡ Done
+
+-- the text with numbers, or words whose format is none
+abbrev pub af_row : (List ℕ → KnownFile) → Option NameFormat → AfTexts → Row
+af_row holds None texts = unknown_row
+af_row holds (Some format) texts = record {
+  inputs = named_input format texts.file ∷ [];
+  takes_memory = true;
+  Ends = EndsNumbered (holds texts.file) format;
+  Says = λ kept end text. IsNumberedOf (holds texts.file) format text;
   files = λ kept end. [];
 }
 
@@ -206,6 +265,8 @@ row_of holds (solving texts) = solve_row holds (solving_by texts) texts
 row_of holds (checking texts) = check_row holds (asked_by texts.task texts.number) texts
 row_of holds (living texts) = live_row holds (budget_of texts.budget) texts
 row_of holds (benching texts) = bench_row (large_by texts)
+row_of holds (by_name texts) = names_row holds (naming_by texts) texts
+row_of holds (numbering texts) = af_row holds (format_named texts.kind) texts
 row_of holds unknown = unknown_row
 
 -- ---- the cause of an ending
@@ -216,9 +277,13 @@ EndsCommand found row kept end =
     ((kept ≡ nothing_kept) × (StopsAtFirst found end row.inputs ⊎ ((end ≡ WantOfMemory) × IsTrue row.takes_memory)))
     ⊎ row.Ends kept end
 
--- the text that the ending has to write
-abbrev pub text_of : Row → Transcript → Status → List ℕ
-text_of row kept end = unwrap_or (common_text end) (row.text kept end)
+-- the text that an ending has to write: its status's where that says the same in every command, or else its row's
+abbrev pub IsTextOf : Option (List ℕ) → (List ℕ → Type 0) → List ℕ → Type 0
+IsTextOf None Says text = Says text
+IsTextOf (Some said) Says text = text ≡ said
+
+abbrev pub WritesText : Row → Transcript → Status → List ℕ → Type 0
+WritesText row kept end text = IsTextOf (common_text end) (row.Says kept end) text
 
 -- the files that an ending has to write: none where its status says the same in every command
 abbrev pub files_beside : Option (List ℕ) → List FileText → List FileText
@@ -237,7 +302,7 @@ pub record CountsReads (found : Reading) (row : Row) (end : Status) : Type 0 whe
 -- the ending is one that the row has
 pub record IsEndingOf (found : Reading) (row : Row) (ending : Ending) : Type 0 where
   pub cause : EndsCommand found row ending.kept ending.status
-  pub text : text_bytes ending.text ≡ text_of row ending.kept ending.status
+  pub text : WritesText row ending.kept ending.status (text_bytes ending.text)
   pub files :
       map file_text ending.files ≡ files_beside (common_text ending.status) (row.files ending.kept ending.status)
   pub counts : CountsReads found row ending.status
@@ -248,10 +313,11 @@ IsEndingFor found request ending = IsEndingOf found (row_of found.holds request)
 
 -- the ending of a session: it keeps the session, ends as its reply says, and writes the text of its answer and the file
 -- of its certificate, or the line of its status
-pub record EndsSession (session : KeptSession) (name : Option (List ℕ)) (ending : Ending) : Type 0 where
+pub record EndsSession (session : KeptSession) (said : List ℕ) (name : Option (List ℕ)) (ending : Ending)
+    : Type 0 where
   pub status : ending.status ≡ status_of session.reply
   pub keeps : ending.kept ≡ session_kept session
-  pub text : text_bytes ending.text ≡ unwrap_or (common_text ending.status) (reply_text session.reply)
+  pub text : text_bytes ending.text ≡ unwrap_or (common_text ending.status) said
   pub files : map file_text ending.files ≡ files_beside (common_text ending.status) (reply_files name session.reply)
 
 -- the ending of a script's run: it keeps what the sessions came to, is done, and writes the transcript and the file of

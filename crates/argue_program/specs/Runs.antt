@@ -1,13 +1,23 @@
 -- What a run does, and what follows of it in the words of its query.
-use Rattle.std.specs.Prelude.{◌≡◌, ◌≢◌, ℕ, ◌⊎◌, ◌<◌, ◌≤◌, true, List, length, map, take, slice_index_or, Ok, Some}
+use Rattle.std.specs.Prelude.{◌≡◌, ◌≢◌, ℕ, ◌⊎◌, ◌<◌, ◌≤◌, true, List, length, map, take, slice_index_or, Ok, Some, Option}
 use Rattle.std.specs.Io.KnownBytes.{Appends}
 use Rattle.argue_outside.specs.Outside.{FaultCounted, KnownFile}
 use Rattle.argue_outside.specs.declared.Role.{Role}
 use Rattle.argue_outside.specs.declared.Role.TheVariants as role
+use Rattle.semantics.specs.Framework.{Af}
 use Rattle.semantics.specs.Frameworks.{Framework, af}
 use Rattle.num_text.specs.declared.limit.TheConstants.{MAX_INPUT}
-use Rattle.argue_words.specs.Words.{BenchTexts, CheckTexts, IsBenchQuery, IsCheckQuery, IsLiveQuery, IsSolveQuery}
-use Rattle.argue_words.specs.Words.{LiveTexts, SolveTexts, requested}
+use Rattle.argue_words.specs.Words.{AfTexts, BenchTexts, CheckTexts, IsAfQuery, IsBenchQuery, IsCheckQuery, IsLiveQuery}
+use Rattle.argue_words.specs.Words.{IsNamesQuery, IsSolveQuery, LiveTexts, NamesTexts, SolveTexts, requested}
+use Rattle.apx_tgf.specs.Faults.{IsFirstFault as IsFirstNameFault}
+use Rattle.apx_tgf.specs.Names.{AreDistinct}
+use Rattle.apx_tgf.specs.NamedText.{ReadsAs as NamedReadsAs}
+use Rattle.apx_tgf.specs.declared.fault.NameCause.{NameCause}
+use Rattle.apx_tgf.specs.declared.format.NameFormat.{NameFormat}
+use Rattle.named_commands.specs.NamedTexts.{named_answer}
+use Rattle.named_commands.specs.Namings.{IsAskedBy, IsNamedOf, IsUnknown, format_named, naming_by, solving_of}
+use Rattle.named_commands.specs.Numberings.{IsNumberedOf}
+use Rattle.named_commands.specs.declared.naming.Naming.{Naming}
 use Rattle.iccma_tasks.specs.AnswerText.{filled_fields, ReadsAs as AnswerReadsAs}
 use Rattle.iccma_tasks.specs.WrittenText.{text_of as answer_text}
 use Rattle.iccma_tasks.specs.Tasks.{Asked}
@@ -21,7 +31,7 @@ use Rattle.argue_commands.specs.Checks.{CheckEnds, IsAnswerOf}
 use Rattle.argue_program.specs.LargeInputs.{large_by}
 use Rattle.argue_commands.specs.Queries.{asked_by, budget_of, solving_by}
 use Rattle.argue_program.specs.Scripts.{RunsScript, transcript_bytes}
-use Rattle.argue_commands.specs.Solves.{IsReplyTo, IsSessionOf, IsSessionOn, status_of}
+use Rattle.argue_commands.specs.Solves.{IsReplyTo, IsSessionOf, status_of}
 use Rattle.argue_program.specs.declared.large.LargeInput.{LargeInput}
 use Rattle.argue_commands.specs.declared.query.Solving.{Solving}
 use Rattle.bench_runs.specs.Generator.{bench_framework}
@@ -42,7 +52,7 @@ use Rattle.oracle_face.specs.Growing.{IsFurther}
 use Rattle.oracle_face.specs.Logs.{IsNew, is_unit, no_step, units_of, working}
 use Rattle.session_log.specs.Ends.{LoopInHand, MadeFor}
 use Rattle.bench_runs.specs.oracle_core.specs.declared.reply.Answered.{Answered}
-use Rattle.argue_commands.specs.Inputs.{Input, IsFirstFaultIn, IsFrameworkOf, Reading, input}
+use Rattle.argue_commands.specs.Inputs.{Input, IsFirstFaultAs, IsFirstFaultIn, IsFrameworkOf, Reading, input, named_input}
 use Rattle.argue_commands.specs.Replacing.{RefusesFile, WritesFiles, certificate_files, file_text}
 use Rattle.argue_program.specs.Rows.{IsEndingFor, certificates_files}
 use Rattle.argue_program.specs.Seen.{Seen}
@@ -71,14 +81,36 @@ pub record IsRunOf (words : List (List ℕ)) (seen : Seen) (ended : Ended) : Typ
 
 -- ---- what follows
 
--- the words ask a query, and this is its session on the framework in its file: an answer in it is right and has an
--- accepted certificate
+-- the words ask this query of numbers, on this framework in its file
+pub record AsksByNumber (words : List (List ℕ)) (holds : List ℕ → KnownFile) (query : Solving) (f : Framework) : Type 0
+  where
+    pub texts : SolveTexts
+    pub asks : IsSolveQuery words texts
+    pub query_is : solving_by texts ≡ Some query
+    pub of_framework : IsFrameworkOf (holds texts.file) f
+
+-- the words ask a query by names, on the framework in its file, and this is the query of numbers
+pub record AsksByName (words : List (List ℕ)) (holds : List ℕ → KnownFile) (query : Solving) (f : Framework) : Type 0
+  where
+    pub texts : NamesTexts
+    pub asks : IsNamesQuery words texts
+    pub naming : Naming
+    pub naming_is : naming_by texts ≡ Some naming
+    pub names : List (List ℕ)
+    pub plain : Af
+    pub of_framework : IsNamedOf (holds texts.file) naming.format names plain
+    pub framework_is : f ≡ af plain
+    pub asked : Asked
+    pub asks_by : IsAskedBy names naming.task texts.name asked
+    pub query_is : query ≡ solving_of naming asked
+
+-- the words ask a query, by numbers or by names, and this is its session on the framework in its file: an answer in it is
+-- right and has an accepted certificate
 pub record AsksSession (words : List (List ℕ)) (holds : List ℕ → KnownFile) (session : KeptSession) : Type 0 where
-  pub texts : SolveTexts
-  pub asks : IsSolveQuery words texts
   pub query : Solving
-  pub query_is : solving_by texts ≡ Some query
-  pub on : IsSessionOn (holds texts.file) query session
+  pub framework : Framework
+  pub asks : AsksByNumber words holds query framework ⊎ AsksByName words holds query framework
+  pub is : IsSessionOf framework query session
 
 -- the run keeps the session of the words' query, and its log shows that the budget was spent: it has as many units as
 -- the budget, each of them a clause that was new when it came, and a further clause that would be one is in hand; no
@@ -93,8 +125,7 @@ pub record SpendsBudget (words : List (List ℕ)) (holds : List ℕ → KnownFil
       → IsNew (working (take k session.engine.log.steps)) (slice_index_or session.engine.log.steps k no_step).clause
   pub in_hand : Pending
   pub pending : session.engine.pending ≡ Some in_hand
-  pub further : IsFurther (MadeFor asks.on.framework asks.query.query) asks.on.framework session.engine.log
-      in_hand
+  pub further : IsFurther (MadeFor asks.framework asks.query.query) asks.framework session.engine.log in_hand
   pub in_hand_serves : LoopInHand session.engine.log session.engine.pending
 
 -- the run keeps the session of the words' query, and its log is full
@@ -138,9 +169,15 @@ pub record NamesScriptFile (words : List (List ℕ)) (name : List ℕ) : Type 0 
   pub asks : IsLiveQuery words texts
   pub named : texts.certificate ≡ Some name
 
+-- the name is that of the file for the certificate of the words' query by names
+pub record NamesNamedFile (words : List (List ℕ)) (name : List ℕ) : Type 0 where
+  pub texts : NamesTexts
+  pub asks : IsNamesQuery words texts
+  pub named : texts.certificate ≡ Some name
+
 -- the words name this file for certificates
 abbrev pub NamesCertificate : List (List ℕ) → List ℕ → Type 0
-NamesCertificate words name = NamesAnswerFile words name ⊎ NamesScriptFile words name
+NamesCertificate words name = NamesAnswerFile words name ⊎ (NamesScriptFile words name ⊎ NamesNamedFile words name)
 
 -- the run keeps the query's session on the framework, and ends as its reply says
 pub record EndsAsReplied (f : Framework) (query : Solving) (kept : Transcript) (end : Status) : Type 0 where
@@ -312,3 +349,105 @@ pub record WritesSummary (seen : Seen) (texts : BenchTexts) (kept : Transcript) 
   pub is : IsBenchRun large.arguments large.seed run
   pub text : Appends seen.before.contents seen.after.contents (summary large.arguments large.seed)
   pub no_file : seen.after.holds ≡ seen.before.holds
+
+-- ---- queries by names
+
+-- the output has gained the text, by names, of a right answer to the words' query on the framework in its file, and the
+-- file that is named for the certificate has that of one that is accepted for the answer; each name has one number
+pub record WritesNamed (seen : Seen) (texts : NamesTexts) : Type 0 where
+  pub naming : Naming
+  pub naming_is : naming_by texts ≡ Some naming
+  pub names : List (List ℕ)
+  pub framework : Af
+  pub of_framework : IsNamedOf (seen.files.holds texts.file) naming.format names framework
+  pub one_to_one : AreDistinct names
+  pub asked : Asked
+  pub asks : IsAskedBy names naming.task texts.name asked
+  pub reply : Answered
+  pub replies : IsReplyTo (af framework) (solving_of naming asked) reply
+  pub text : Appends seen.before.contents seen.after.contents (named_answer names reply.answer)
+  pub files :
+      WritesFiles (certificate_files texts.certificate reply.certificate) seen.before.holds seen.after.holds
+
+-- the words ask this query by names, and the file reads as this framework with these names
+pub record NamesContents (found : Reading) (words : List (List ℕ)) (texts : NamesTexts) (naming : Naming)
+    (names : List (List ℕ)) (f : Af) : Type 0 where
+  pub asks : IsNamesQuery words texts
+  pub naming_is : naming_by texts ≡ Some naming
+  pub of_framework : HasText found (named_input naming.format texts.file)
+      (λ bytes. NamedReadsAs naming.format bytes names f)
+
+-- the run keeps the session of the query of numbers, and ends as its reply says
+pub record EndsByName (names : List (List ℕ)) (f : Af) (naming : Naming) (name : Option (List ℕ)) (kept : Transcript)
+    (end : Status) : Type 0 where
+  pub session : KeptSession
+  pub keeps : kept.session ≡ Some session
+  pub asked : Asked
+  pub asks : IsAskedBy names naming.task name asked
+  pub is : IsSessionOf (af f) (solving_of naming asked) session
+  pub ends : end ≡ status_of session.reply
+
+-- a query by names ends as its session says, or is refused where its name is none of the names, but for want of memory or
+-- a write fault
+abbrev pub IsNamesEnd : List (List ℕ) → Af → Naming → Option (List ℕ) → Transcript → Status → Type 0
+IsNamesEnd names f naming name kept WantOfMemory = Unit {0}
+IsNamesEnd names f naming name kept WriteFault = Unit {0}
+IsNamesEnd names f naming name kept end =
+    EndsByName names f naming name kept end ⊎ IsUnknown names name end
+
+-- ---- texts with numbers
+
+-- the output has gained a text with numbers of the framework in the file, which reads as that framework, and no file
+-- changes
+pub record WritesNumbered (seen : Seen) (texts : AfTexts) : Type 0 where
+  pub format : NameFormat
+  pub format_is : format_named texts.kind ≡ Some format
+  pub text : List ℕ
+  pub is : IsNumberedOf (seen.files.holds texts.file) format text
+  pub gains : Appends seen.before.contents seen.after.contents text
+  pub no_file : seen.after.holds ≡ seen.before.holds
+
+-- the words ask for a text with numbers, and the file reads as this framework with these names
+pub record NumbersContents (found : Reading) (words : List (List ℕ)) (texts : AfTexts) (format : NameFormat)
+    (names : List (List ℕ)) (f : Af) : Type 0 where
+  pub asks : IsAfQuery words texts
+  pub format_is : format_named texts.kind ≡ Some format
+  pub of_framework : HasText found (named_input format texts.file) (λ bytes. NamedReadsAs format bytes names f)
+
+-- ---- texts with names
+
+-- the words ask a query by names of a file in this format
+pub record AsksNamesIn (words : List (List ℕ)) (format : NameFormat) (file : List ℕ) : Type 0 where
+  pub texts : NamesTexts
+  pub asks : IsNamesQuery words texts
+  pub naming : Naming
+  pub naming_is : naming_by texts ≡ Some naming
+  pub format_is : naming.format ≡ format
+  pub file_is : texts.file ≡ file
+
+-- the words ask for the text with numbers of a file in this format
+pub record AsksNumbersIn (words : List (List ℕ)) (format : NameFormat) (file : List ℕ) : Type 0 where
+  pub texts : AfTexts
+  pub asks : IsAfQuery words texts
+  pub format_is : format_named texts.kind ≡ Some format
+  pub file_is : texts.file ≡ file
+
+-- the words ask for either, the file has these bytes, and no read of it fails: it is served, or no fault is counted
+pub record NamedBytes (found : Reading) (words : List (List ℕ)) (format : NameFormat) (file bytes : List ℕ) : Type 0
+  where
+    pub asks : AsksNamesIn words format file ⊎ AsksNumbersIn words format file
+    pub known : found.holds file ≡ Some (Some bytes)
+    pub no_fault : found.Serves file
+        ⊎ ¬ FaultCounted (found.old_count (role.Framework 1)) (found.new_count (role.Framework 1))
+
+-- the bytes have a first fault
+abbrev pub IsFaultyNamed : NameFormat → List ℕ → Type 0
+IsFaultyNamed format bytes = (line : ℕ) × (cause : NameCause) × IsFirstNameFault format bytes line cause
+
+-- faulty bytes are refused by their first fault, but for want of memory or a write fault
+abbrev pub RefusesNamed : NameFormat → List ℕ → Status → Type 0
+RefusesNamed format bytes (InputRefused (Line of line cause)) =
+    (of ≡ role.Framework 1) × IsFirstFaultAs format bytes line cause
+RefusesNamed format bytes WriteFault = Unit {0}
+RefusesNamed format bytes WantOfMemory = Unit {0}
+RefusesNamed format bytes _ = ⊥

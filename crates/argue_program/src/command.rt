@@ -1,8 +1,8 @@
 //! The top call.
 
-ghost use Rattle.std.specs.Prelude.{◌≡◌, false, map};
+ghost use Rattle.std.specs.Prelude.{◌≢◌, Some, map};
 ghost use Rattle.std.specs.String.{string_bytes};
-ghost use Rattle.argue_words.specs.Words.{is_bench, is_live};
+ghost use Rattle.argue_words.specs.Words.{command_named};
 ghost use Rattle.argue_program.specs.Promises.{Promises};
 ghost use Rattle.argue_program.specs.Runs.{IsRunOf};
 ghost use Rattle.argue_program.specs.Seen.{seen};
@@ -11,6 +11,7 @@ use crate::decision::{decide, decide_with};
 use crate::ended::Ended;
 use crate::writing::write_ending;
 use argue_outside::{Files, Pace, Sink};
+use argue_words::CommandName;
 use std::alloc::Global;
 use std::sync::Wait;
 use std::thread::Threads;
@@ -23,8 +24,8 @@ pub fn execute<F: Files, O: Sink>(
     files: &mut F,
     out: &mut O,
 ) -> Ended
-    requires live { is_live (map string_bytes words.now) ≡ false }
-    requires bench { is_bench (map string_bytes words.now) ≡ false }
+    requires live { command_named (map string_bytes words.now) ≢ Some CommandName.Live }
+    requires bench { command_named (map string_bytes words.now) ≢ Some CommandName.Bench }
     // What the run does, by the row of what its words ask for.
     ensures run { IsRunOf (map string_bytes words.now)
         (seen F.Files O.Sink files.old files.new out.old out.new) result }

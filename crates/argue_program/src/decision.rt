@@ -1,8 +1,8 @@
 //! Which ending the words ask for: an arm for each command.
 
-ghost use Rattle.std.specs.Prelude.{◌≡◌, ◌≢◌, false, map};
+ghost use Rattle.std.specs.Prelude.{◌≡◌, ◌≢◌, Some, map};
 ghost use Rattle.std.specs.String.{string_bytes};
-ghost use Rattle.argue_words.specs.Words.{is_bench, is_live, request_of, requested};
+ghost use Rattle.argue_words.specs.Words.{command_named, request_of, requested};
 ghost use Rattle.argue_words.specs.declared.words.BenchWords.{BenchWords as ABenchWords};
 ghost use Rattle.argue_words.specs.declared.words.LiveWords.{LiveWords as ALiveWords};
 ghost use Rattle.argue_commands.specs.Inputs.{reading};
@@ -11,11 +11,13 @@ ghost use Rattle.argue_program.specs.Rows.{IsEndingFor};
 use crate::checking::check;
 use crate::ending::{Ending, done_ending, status_ending};
 use crate::large::bench;
+use crate::naming::names;
+use crate::numbering::af;
 use crate::scripts::live;
 use crate::solving::solve;
 use argue_commands::{Status, Text};
 use argue_outside::{Files, Pace};
-use argue_words::{Command, read_words};
+use argue_words::{Command, CommandName, read_words};
 use lists::Memory;
 use std::alloc::Global;
 use std::sync::Wait;
@@ -40,6 +42,8 @@ fn decide_command<F: Files>(alloc: Global, command: Command, files: &mut F) -> E
         Command::Problems => done_ending(alloc, Text::Fixed(PROBLEMS)),
         Command::Solve(words) => solve(alloc, files, words),
         Command::Check(words) => check(alloc, files, words),
+        Command::Names(words) => names(alloc, files, words),
+        Command::Af(words) => af(alloc, files, words),
         Command::Live(_) | Command::Bench(_) => unreachable!(),
         Command::Unknown => status_ending(alloc, Status::Usage),
     }
@@ -48,8 +52,8 @@ fn decide_command<F: Files>(alloc: Global, command: Command, files: &mut F) -> E
 /// Decides how a run on these words ends, which name neither `live` nor `bench`: what it keeps, and what it has to
 /// write. Files are read, and nothing is written. All memory of a run is taken here.
 pub fn decide<F: Files>(alloc: Global, words: &[String], files: &mut F) -> Ending
-    requires live { is_live (map string_bytes words.now) ≡ false }
-    requires bench { is_bench (map string_bytes words.now) ≡ false }
+    requires live { command_named (map string_bytes words.now) ≢ Some CommandName.Live }
+    requires bench { command_named (map string_bytes words.now) ≢ Some CommandName.Bench }
     ensures ending { IsEndingFor (reading F.Files files.old files.new) (requested (map string_bytes words.now)) result }
     ensures same { F.holds files.new ≡ F.holds files.old }
     ensures writes { F.write_count files.new ≡ F.write_count files.old }

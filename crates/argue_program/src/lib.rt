@@ -11,6 +11,8 @@ pub mod decision;
 pub mod ended;
 pub mod ending;
 mod large;
+mod naming;
+mod numbering;
 pub mod process;
 mod scripts;
 mod solving;

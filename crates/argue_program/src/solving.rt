@@ -4,7 +4,7 @@ ghost use Rattle.std.specs.Prelude.{◌≡◌, ℕ, List, Ok, Err, IfOk, Option}
 ghost use Rattle.std.specs.Option.{option_map};
 ghost use Rattle.argue_words.specs.Words.{solve_texts, solving};
 ghost use Rattle.argue_commands.specs.Inputs.{reading};
-ghost use Rattle.argue_program.specs.Rows.{EndsSession, IsEndingFor, session_kept};
+ghost use Rattle.argue_program.specs.Rows.{EndsSession, IsEndingFor, reply_text, session_kept};
 
 use crate::ended::Transcript;
 use crate::ending::{Ending, status_ending};
@@ -15,7 +15,7 @@ use argue_commands::{AnswerStop, Answered, Engine, KeptSession, Status, Text};
 use argue_outside::Files;
 use argue_words::SolveWords;
 use iccma_tasks::answer_text;
-use lists::{Items, Memory};
+use lists::{Bytes, Items, Memory};
 use std::alloc::Global;
 
 /// What is kept of a session.
@@ -29,16 +29,16 @@ fn kept_of(reply: Result<Answered, AnswerStop>, engine: Engine) -> Transcript
 }
 
 /// The ending with an answer: its text, and the file of its certificate where one is named.
-fn answer_ending(
+pub(crate) fn answer_ending(
     alloc: Global,
     reply: Answered,
     engine: Engine,
+    text: Bytes,
     certificate: Option<&str>,
 ) -> Result<Ending, Memory>
-    ensures { IfOk result (EndsSession (record { reply = Ok reply; engine = engine })
+    ensures { IfOk result (EndsSession (record { reply = Ok reply; engine = engine }) text
         (option_map (λ text. text.now) certificate.entry)) }
 {
-    let text = answer_text(alloc, &reply.answer)?;
     let files = certificate_file(alloc, certificate, &reply.certificate)?;
     Ok(Ending {
         status: Status::Done,
@@ -49,8 +49,9 @@ fn answer_ending(
 }
 
 /// The ending without an answer: the line of its status.
-fn stop_ending(alloc: Global, stop: AnswerStop, engine: Engine) -> Result<Ending, Memory>
-    ensures { (name : Option (List ℕ)) → IfOk result (EndsSession (record { reply = Err stop; engine = engine }) name) }
+pub(crate) fn stop_ending(alloc: Global, stop: AnswerStop, engine: Engine) -> Result<Ending, Memory>
+    ensures { (text : List ℕ) (name : Option (List ℕ))
+        → IfOk result (EndsSession (record { reply = Err stop; engine = engine }) text name) }
 {
     let status = status_of(stop);
     let text = status_text(alloc, status)?;
@@ -68,11 +69,15 @@ fn session_ending(
     session: KeptSession,
     certificate: Option<&str>,
 ) -> Result<Ending, Memory>
-    ensures { IfOk result (EndsSession session (option_map (λ text. text.now) certificate.entry)) }
+    ensures { IfOk result (EndsSession session (reply_text session.reply)
+        (option_map (λ text. text.now) certificate.entry)) }
 {
     let KeptSession { reply, engine } = session;
     match reply {
-        Ok(reply) => answer_ending(alloc, reply, engine, certificate),
+        Ok(reply) => {
+            let text = answer_text(alloc, &reply.answer)?;
+            answer_ending(alloc, reply, engine, text, certificate)
+        }
         Err(stop) => stop_ending(alloc, stop, engine),
     }
 }

@@ -8,7 +8,9 @@ use Rattle.clap.specs.declared.builder.command.Command.{Command}
 use Rattle.clap.specs.declared.error.Error.{Error}
 use Rattle.clap.specs.declared.parser.matches.ArgMatches.{ArgMatches}
 use Rattle.clap.proofs.WalkLemmas.{first_value-rows}
-use Rattle.argue_words.specs.Words.{bench_app, bench_value, check_app, check_value, live_app, live_value, option_of, script_app, solve_app, solve_value, task_app, value_option}
+use Rattle.argue_words.specs.Words.{af_app, af_value, bench_app, bench_value, check_app, check_value, live_app, live_value}
+use Rattle.argue_words.specs.Words.{named_app, names_app, names_value, option_of, script_app, solve_app, solve_value}
+use Rattle.argue_words.specs.Words.{task_app, value_option}
 use Rattle.argue_words.proofs.NoFault.{takes_if}
 use Rattle.argue_words.proofs.ValuesGiven.{solve_rules, values_given}
 
@@ -134,24 +136,62 @@ pub bench_values_at : (app : App) (words : List Text) (r : Result ArgMatches Err
     → IfOk r (λ m. (id : Text) → first_value (found_of m) id ≡ bench_value words id)
 bench_values_at app words r is = values_of bench_app bench_is_plain_app app is words r
 
+-- ---- the words of a query by names
+
+names_is_plain_app : IsPlain names_app
+unfolding names_app named_app task_app
+names_is_plain_app = record {
+  simple = refl;
+  free = refl;
+  whole = λ words e. takes_if names_app words refl refl refl refl e;
+}
+
+pub names_taken_at : {T : Type 0} (app : App) (words : List Text) (r : Result T Error) → app ≡ names_app
+    → (is_simple_and_free app ≡ true → FailsBy (fault_of app words) r) → IfOk r (λ _. takes names_app words ≡ true)
+names_taken_at app words r is = taken_of names_app names_is_plain_app app is words r
+
+pub names_values_at : (app : App) (words : List Text) (r : Result ArgMatches Error) → app ≡ names_app
+    → IfOk r (HasMatchesOf app words)
+    → IfOk r (λ m. (id : Text) → first_value (found_of m) id ≡ names_value words id)
+names_values_at app words r is = values_of names_app names_is_plain_app app is words r
+
+-- ---- the words of a text with numbers
+
+af_is_plain_app : IsPlain af_app
+unfolding af_app
+af_is_plain_app = record {
+  simple = refl;
+  free = refl;
+  whole = λ words e. takes_if af_app words refl refl refl refl e;
+}
+
+pub af_taken_at : {T : Type 0} (app : App) (words : List Text) (r : Result T Error) → app ≡ af_app
+    → (is_simple_and_free app ≡ true → FailsBy (fault_of app words) r) → IfOk r (λ _. takes af_app words ≡ true)
+af_taken_at app words r is = taken_of af_app af_is_plain_app app is words r
+
+pub af_values_at : (app : App) (words : List Text) (r : Result ArgMatches Error) → app ≡ af_app
+    → IfOk r (HasMatchesOf app words)
+    → IfOk r (λ m. (id : Text) → first_value (found_of m) id ≡ af_value words id)
+af_values_at app words r is = values_of af_app af_is_plain_app app is words r
+
 -- ---- how the commands are made
 
--- the options behind those of a task and a file
-pub app_is : (first second third fourth : App) (a b d x y z : Rule) → first ≡ task_app → second ≡ with_rule first a
+-- three options behind those of another command
+app_is : (base first second third fourth : App) (a b d x y z : Rule) → first ≡ base → second ≡ with_rule first a
     → third ≡ with_rule second b → fourth ≡ with_rule third d → a ≡ x → b ≡ y → d ≡ z
-    → fourth ≡ with_rule (with_rule (with_rule task_app x) y) z
-app_is first second third fourth a b d x y z is then and last e f g =
+    → fourth ≡ with_rule (with_rule (with_rule base x) y) z
+app_is base first second third fourth a b d x y z is then and last e f g =
     last ∙ ap (λ r. with_rule third r) g ∙ ap (λ app. with_rule app z)
     (and ∙ ap (λ r. with_rule second r) f ∙ ap (λ app. with_rule app y)
     (then ∙ ap (λ r. with_rule first r) e ∙ ap (λ app. with_rule app x) is))
 
-built_of : {E : Type 0} (r : Result Command E) (first second third : App) (a b d x y z : Rule) → first ≡ task_app
-    → second ≡ with_rule first a → third ≡ with_rule second b → a ≡ x → b ≡ y → d ≡ z
+built_of : {E : Type 0} (base : App) (r : Result Command E) (first second third : App) (a b d x y z : Rule)
+    → first ≡ base → second ≡ with_rule first a → third ≡ with_rule second b → a ≡ x → b ≡ y → d ≡ z
     → IfOk r (λ c. app_of c ≡ with_rule third d)
-    → IfOk r (λ c. app_of c ≡ with_rule (with_rule (with_rule task_app x) y) z)
-built_of (Err e) first second third a b d x y z is then and e' f g last = tt
-built_of (Ok c) first second third a b d x y z is then and e' f g last =
-    app_is first second third (app_of c) a b d x y z is then and last e' f g
+    → IfOk r (λ c. app_of c ≡ with_rule (with_rule (with_rule base x) y) z)
+built_of base (Err e) first second third a b d x y z is then and e' f g last = tt
+built_of base (Ok c) first second third a b d x y z is then and e' f g last =
+    app_is base first second third (app_of c) a b d x y z is then and last e' f g
 
 pub check_built : {E : Type 0} (r : Result Command E) (first second third : App) (a b d : Rule) → first ≡ task_app
     → second ≡ with_rule first a → third ≡ with_rule second b → a ≡ value_option (codes "answer") 114
@@ -159,7 +199,7 @@ pub check_built : {E : Type 0} (r : Result Command E) (first second third : App)
     → IfOk r (λ c. app_of c ≡ with_rule third d) → IfOk r (λ c. app_of c ≡ check_app)
 unfolding check_app
 check_built r first second third a b d is then and e f g last =
-    built_of r first second third a b d _ _ _ is then and e f g last
+    built_of task_app r first second third a b d _ _ _ is then and e f g last
 
 pub solve_built : {E : Type 0} (r : Result Command E) (first second third : App) (a b d : Rule) → first ≡ task_app
     → second ≡ with_rule first a → third ≡ with_rule second b → a ≡ option_of (codes "number") 97 false
@@ -167,7 +207,15 @@ pub solve_built : {E : Type 0} (r : Result Command E) (first second third : App)
     → IfOk r (λ c. app_of c ≡ with_rule third d) → IfOk r (λ c. app_of c ≡ solve_app)
 unfolding solve_app
 solve_built r first second third a b d is then and e f g last =
-    built_of r first second third a b d _ _ _ is then and e f g last
+    built_of task_app r first second third a b d _ _ _ is then and e f g last
+
+pub names_built : {E : Type 0} (r : Result Command E) (first second third : App) (a b d : Rule) → first ≡ named_app
+    → second ≡ with_rule first a → third ≡ with_rule second b → a ≡ option_of (codes "name") 97 false
+    → b ≡ option_of (codes "budget") 98 false → d ≡ option_of (codes "certificate") 99 false
+    → IfOk r (λ c. app_of c ≡ with_rule third d) → IfOk r (λ c. app_of c ≡ names_app)
+unfolding names_app
+names_built r first second third a b d is then and e f g last =
+    built_of named_app r first second third a b d _ _ _ is then and e f g last
 
 pub live_built : {E : Type 0} (r : Result Command E) (first second : App) (a b : Rule) → first ≡ script_app
     → second ≡ with_rule first a → a ≡ option_of (codes "budget") 98 false → b ≡ option_of (codes "certificate") 99 false

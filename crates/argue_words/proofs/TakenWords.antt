@@ -1,4 +1,4 @@
--- Words that clap takes for a query, a check, a script's run or that of a large input, and words that it does not.
+-- Words that clap takes for each command, and words that it does not.
 use Rattle.std.proofs.Common.{◌≡◌, ◌≢◌, ◌∙◌, ◌&&◌, Bool, true, false, true≢false, refl, sym, ap, subst}
 use Rattle.std.proofs.Common.{List, [], ◌∷◌, None, Some, codes, drop}
 use Rattle.std.specs.List.{list_all}
@@ -8,8 +8,12 @@ use Rattle.clap.specs.Takes.{default_passes, is_valid, settle_passes, walk_passe
 use Rattle.clap.specs.Words.{Shape, Text, built, first_of, takes}
 use Rattle.clap.proofs.TakesLemmas.{leaf_takes}
 use Rattle.clap.proofs.OnLiterals.{clap_on_literals}
-use Rattle.argue_words.specs.Words.{AreUnknown, IsBenchQuery, IsCheckQuery, IsLiveQuery, IsSolveQuery, SolveTexts, bench_app, check_app, is_bench, is_check, is_live, live_app, script_app, solve_app, task_app, words_are_problems}
-use Rattle.argue_words.proofs.RequestLaws.{no_bench_in, no_check_in, no_live_in}
+use Rattle.argue_words.specs.declared.words.CommandName.{CommandName}
+use Rattle.argue_words.specs.declared.words.CommandName.TheVariants as command
+use Rattle.argue_words.specs.Words.{AreUnknown, IsAfQuery, IsBenchQuery, IsCheckQuery, IsLiveQuery, IsNamesQuery}
+use Rattle.argue_words.specs.Words.{IsSolveQuery, SolveTexts, af_app, bench_app, check_app, command_named, live_app}
+use Rattle.argue_words.specs.Words.{named_app, names_app, script_app, solve_app, task_app, words_are_problems}
+use Rattle.argue_words.proofs.RequestLaws.{no_name_in}
 use Rattle.argue_words.proofs.ValueWords.{no_flag, value_turn, value_walked}
 use Rattle.lists.proofs.TruthValues.{both_from}
 
@@ -45,9 +49,7 @@ task_first file other =
     let step = value_walked [] (codes "file") 1 h file (no_flag file other) top.rules in
     let turn = value_turn [] (codes "file") 1 h file (no_flag file other) top in
     record {
-      no_check = refl;
-      no_live = refl;
-      no_bench = refl;
+      no_name = refl;
       no_list = refl;
       has = record {
         taken = both_from _ _ refl (leaf_takes (built solve_app) nothing_held words refl
@@ -71,9 +73,7 @@ file_first file other =
     let step = value_walked [] (codes "file") 1 h file (no_flag file other) top.rules in
     let turn = value_turn [] (codes "file") 1 h file (no_flag file other) top in
     record {
-      no_check = refl;
-      no_live = refl;
-      no_bench = refl;
+      no_name = refl;
       no_list = refl;
       has = record {
         taken = both_from _ _ refl (leaf_takes (built solve_app) nothing_held words refl
@@ -93,9 +93,7 @@ file_first file other =
 pub values_attached : IsSolveQuery (codes "-pSE-GR" ∷ codes "-fa.af" ∷ []) (plain_texts (codes "SE-GR") (codes "a.af"))
 unfolding clap_on_literals solve_app task_app
 values_attached = record {
-  no_check = refl;
-  no_live = refl;
-  no_bench = refl;
+  no_name = refl;
   no_list = refl;
   has = record { taken = refl; task = refl; file = refl; number = refl; budget = refl; certificate = refl };
 }
@@ -113,9 +111,7 @@ pub query_with_all : IsSolveQuery query_words (record {
 })
 unfolding clap_on_literals solve_app task_app
 query_with_all = record {
-  no_check = refl;
-  no_live = refl;
-  no_bench = refl;
+  no_name = refl;
   no_list = refl;
   has = record { taken = refl; task = refl; file = refl; number = refl; budget = refl; certificate = refl };
 }
@@ -171,14 +167,43 @@ pub no_script : AreUnknown (codes "live" ∷ codes "-f" ∷ codes "a.af" ∷ [])
 unfolding clap_on_literals live_app script_app
 no_script = record {
   some_words = λ none. cc;
-  no_check = λ texts query. no_check_in _ refl texts query;
+  no_check = λ texts query. no_name_in _ query.rest command.Check (λ e. cc) query.words_are;
   no_live = λ texts query.
       let rest : codes "-f" ∷ codes "a.af" ∷ [] ≡ query.rest = ap (drop 1) query.words_are in
       let refused : takes live_app (codes "-f" ∷ codes "a.af" ∷ []) ≡ false = refl in
       true≢false (sym query.has.taken ∙ (ap (takes live_app) (sym rest) ∙ refused));
-  no_bench = λ texts query. no_bench_in _ refl texts query;
-  others = λ _ lives _. absurd (true≢false lives);
+  no_bench = λ texts query. no_name_in _ query.rest command.Bench (λ e. cc) query.words_are;
+  no_names = λ texts query. no_name_in _ query.rest command.Names (λ e. cc) query.words_are;
+  no_af = λ texts query. no_name_in _ query.rest command.Af (λ e. cc) query.words_are;
+  others = λ none. cc;
 }
+
+abbrev names_words : List Text
+names_words = codes "-p" ∷ codes "DC-CO" ∷ codes "-f" ∷ codes "a.apx" ∷ codes "-a" ∷ codes "b" ∷ codes "-k" ∷ codes "apx"
+    ∷ []
+
+pub names_with_name : IsNamesQuery (codes "names" ∷ names_words) (record {
+  task = codes "DC-CO";
+  kind = codes "apx";
+  file = codes "a.apx";
+  name = Some (codes "b");
+  budget = None;
+  certificate = None;
+})
+unfolding clap_on_literals names_app named_app task_app
+names_with_name = record {
+  rest = names_words;
+  words_are = refl;
+  has =
+      record { taken = refl; task = refl; kind = refl; file = refl; name = refl; budget = refl; certificate = refl };
+}
+
+abbrev af_words : List Text
+af_words = codes "-f" ∷ codes "a.tgf" ∷ codes "-k" ∷ codes "tgf" ∷ []
+
+pub af_with_both : IsAfQuery (codes "af" ∷ af_words) (record { kind = codes "tgf"; file = codes "a.tgf" })
+unfolding clap_on_literals af_app
+af_with_both = record { rest = af_words; words_are = refl; has = record { taken = refl; kind = refl; file = refl } }
 
 abbrev bench_words : List Text
 bench_words = codes "-x" ∷ codes "7" ∷ codes "-n" ∷ codes "40" ∷ []
@@ -191,36 +216,41 @@ bench_with_both =
 pub list_alone : words_are_problems (codes "--problems" ∷ []) ≡ true
 list_alone = refl
 
-refused : (words : List Text) → (words ≡ [] → ⊥) → is_check words ≡ false → is_live words ≡ false
-    → is_bench words ≡ false → words_are_problems words ≡ false → takes solve_app words ≡ false → AreUnknown words
-refused words some checks lives benches listed e = record {
+refused : (words : List Text) → (words ≡ [] → ⊥) → command_named words ≡ None → words_are_problems words ≡ false
+    → takes solve_app words ≡ false → AreUnknown words
+refused words some none listed e = record {
   some_words = some;
-  no_check = λ texts query. no_check_in words checks texts query;
-  no_live = λ texts query. no_live_in words lives texts query;
-  no_bench = λ texts query. no_bench_in words benches texts query;
-  others = λ _ _ _. record {
+  no_check = λ texts query. no_name_in words query.rest command.Check (λ is. unnamed words _ none is) query.words_are;
+  no_live = λ texts query. no_name_in words query.rest command.Live (λ is. unnamed words _ none is) query.words_are;
+  no_bench = λ texts query. no_name_in words query.rest command.Bench (λ is. unnamed words _ none is) query.words_are;
+  no_names = λ texts query. no_name_in words query.rest command.Names (λ is. unnamed words _ none is) query.words_are;
+  no_af = λ texts query. no_name_in words query.rest command.Af (λ is. unnamed words _ none is) query.words_are;
+  others = λ _. record {
     no_list = λ is. true≢false (sym is ∙ listed);
     refused = λ taken. true≢false (sym taken ∙ e);
   };
 }
+  where
+    unnamed : (words : List Text) (n : CommandName) → command_named words ≡ None → command_named words ≢ Some n
+    unnamed words n none is = let e : None ≡ Some n = sym none ∙ is in cc
 
 pub no_task : AreUnknown (codes "-f" ∷ codes "a.af" ∷ [])
 unfolding clap_on_literals solve_app task_app
-no_task = refused _ (λ none. cc) refl refl refl refl refl
+no_task = refused _ (λ none. cc) refl refl refl
 
 pub no_file : AreUnknown (codes "-p" ∷ codes "SE-GR" ∷ [])
 unfolding clap_on_literals solve_app task_app
-no_file = refused _ (λ none. cc) refl refl refl refl refl
+no_file = refused _ (λ none. cc) refl refl refl
 
 pub file_twice : AreUnknown
     (codes "-p" ∷ codes "SE-GR" ∷ codes "-f" ∷ codes "a.af" ∷ codes "-f" ∷ codes "a.af" ∷ [])
 unfolding clap_on_literals solve_app task_app
-file_twice = refused _ (λ none. cc) refl refl refl refl refl
+file_twice = refused _ (λ none. cc) refl refl refl
 
 pub list_with_a_file : AreUnknown (codes "--problems" ∷ codes "-f" ∷ codes "a.af" ∷ [])
 unfolding clap_on_literals solve_app task_app
-list_with_a_file = refused _ (λ none. cc) refl refl refl refl refl
+list_with_a_file = refused _ (λ none. cc) refl refl refl
 
 pub help_asked : AreUnknown (codes "--help" ∷ [])
 unfolding clap_on_literals solve_app task_app
-help_asked = refused _ (λ none. cc) refl refl refl refl refl
+help_asked = refused _ (λ none. cc) refl refl refl

@@ -1,15 +1,19 @@
 -- What the words after the program's name ask for.
-use Rattle.std.specs.Prelude.{◌≡◌, ◌≢◌, ◌⊎◌, ℕ, Bool, List, [], ◌∷◌, Option, Some, true, false, codes, if◌then◌else◌}
+use Rattle.std.specs.Prelude.{◌≡◌, ◌≢◌, ℕ, Bool, List, [], ◌∷◌, Option, Some, None, true, false, codes, if◌then◌else◌}
 use Rattle.std.specs.Option.{option_map}
 use Rattle.std.specs.Str.{bytes_eq}
 use Rattle.clap.specs.Words.{App, Rule, Text, first_of, matches_of, new_app, new_rule, takes}
 use Rattle.clap.specs.Words.{with_rule}
 use Rattle.clap.specs.declared.builder.ArgAction.TheVariants.{Set}
 use Rattle.argue_words.specs.declared.words.Command.{Command}
-use Rattle.argue_words.specs.declared.words.Command.TheVariants.{Version, Problems, Solve, Check, Live, Bench, Unknown}
+use Rattle.argue_words.specs.declared.words.Command.TheVariants.{Version, Problems, Solve, Check, Live, Bench, Names, Af, Unknown}
+use Rattle.argue_words.specs.declared.words.CommandName.{CommandName}
+use Rattle.argue_words.specs.declared.words.CommandName.TheVariants as command
+use Rattle.argue_words.specs.declared.words.AfWords.{AfWords}
 use Rattle.argue_words.specs.declared.words.BenchWords.{BenchWords}
 use Rattle.argue_words.specs.declared.words.CheckWords.{CheckWords}
 use Rattle.argue_words.specs.declared.words.LiveWords.{LiveWords}
+use Rattle.argue_words.specs.declared.words.NamesWords.{NamesWords}
 use Rattle.argue_words.specs.declared.words.SolveWords.{SolveWords}
 
 -- an option of one value, written as a hyphen and one letter
@@ -57,20 +61,42 @@ live_app = with_rule (with_rule script_app (option_of (codes "budget") 98 false)
 unfoldable pub bench_app : App
 bench_app = with_rule (with_rule bare_app (value_option (codes "arguments") 110)) (value_option (codes "seed") 120)
 
--- the first word is `check`
-abbrev pub is_check : List Text → Bool
-is_check [] = false
-is_check (word ∷ more) = bytes_eq word (codes "check")
+-- the command of `-p TASK`, `-f FILE` and `-k KIND`
+unfoldable pub named_app : App
+named_app = with_rule task_app (value_option (codes "kind") 107)
 
--- the first word is `live`
-abbrev pub is_live : List Text → Bool
-is_live [] = false
-is_live (word ∷ more) = bytes_eq word (codes "live")
+-- the command of a query by names: besides these, `-a NAME`, `-b BUDGET` and `-c CERT`, each of which may be left out
+unfoldable pub names_app : App
+names_app = with_rule (with_rule (with_rule named_app (option_of (codes "name") 97 false))
+    (option_of (codes "budget") 98 false)) (option_of (codes "certificate") 99 false)
 
--- the first word is `bench`
-abbrev pub is_bench : List Text → Bool
-is_bench [] = false
-is_bench (word ∷ more) = bytes_eq word (codes "bench")
+-- the command of `-k KIND` and `-f FILE`
+unfoldable pub af_app : App
+af_app = with_rule (with_rule bare_app (value_option (codes "file") 102)) (value_option (codes "kind") 107)
+
+-- ---- the names of commands
+
+-- the word that names a command
+abbrev pub name_text : CommandName → Text
+name_text command.Check = codes "check"
+name_text command.Live = codes "live"
+name_text command.Bench = codes "bench"
+name_text command.Names = codes "names"
+name_text command.Af = codes "af"
+
+-- the command that a word names, if it names one
+abbrev pub named : Text → Option CommandName
+named word =
+    if bytes_eq word (codes "check") then Some command.Check
+    else (if bytes_eq word (codes "live") then Some command.Live
+    else (if bytes_eq word (codes "bench") then Some command.Bench
+    else (if bytes_eq word (codes "names") then Some command.Names
+    else (if bytes_eq word (codes "af") then Some command.Af else None))))
+
+-- the command that the first word names
+abbrev pub command_named : List Text → Option CommandName
+command_named [] = None
+command_named (word ∷ more) = named word
 
 -- the words are `--problems` alone
 abbrev pub words_are_problems : List Text → Bool
@@ -103,9 +129,7 @@ pub record HasSolveTexts (words : List Text) (texts : SolveTexts) : Type 0 where
 
 -- the words name no command, and ask a query with these texts
 pub record IsSolveQuery (words : List Text) (texts : SolveTexts) : Type 0 where
-  pub no_check : is_check words ≡ false
-  pub no_live : is_live words ≡ false
-  pub no_bench : is_bench words ≡ false
+  pub no_name : command_named words ≡ None
   pub no_list : words_are_problems words ≡ false
   pub has : HasSolveTexts words texts
 
@@ -189,31 +213,90 @@ pub record IsBenchQuery (words : List Text) (texts : BenchTexts) : Type 0 where
   pub words_are : words ≡ codes "bench" ∷ rest
   pub has : HasBenchTexts rest texts
 
+-- ---- queries by names
+
+-- the texts of a query by names: a task, the kind and the name of the framework's file, and the name of an argument, a
+-- budget and the name of a file for the certificate, where they are given
+pub record NamesTexts : Type 0 where
+  pub task : Text
+  pub kind : Text
+  pub file : Text
+  pub name : Option Text
+  pub budget : Option Text
+  pub certificate : Option Text
+
+-- the value of an option of `names`
+abbrev pub names_value : List Text → Text → Option Text
+names_value words id = first_of id (matches_of names_app words)
+
+-- the words behind the command's name, which clap takes, have these texts
+pub record HasNamesTexts (words : List Text) (texts : NamesTexts) : Type 0 where
+  pub taken : takes names_app words ≡ true
+  pub task : names_value words (codes "task") ≡ Some texts.task
+  pub kind : names_value words (codes "kind") ≡ Some texts.kind
+  pub file : names_value words (codes "file") ≡ Some texts.file
+  pub name : names_value words (codes "name") ≡ texts.name
+  pub budget : names_value words (codes "budget") ≡ texts.budget
+  pub certificate : names_value words (codes "certificate") ≡ texts.certificate
+
+-- the words ask a query by names with these texts
+pub record IsNamesQuery (words : List Text) (texts : NamesTexts) : Type 0 where
+  pub rest : List Text
+  pub words_are : words ≡ codes "names" ∷ rest
+  pub has : HasNamesTexts rest texts
+
+-- ---- texts with numbers
+
+-- the texts for a text with numbers: the kind and the name of a file
+pub record AfTexts : Type 0 where
+  pub kind : Text
+  pub file : Text
+
+-- the value of an option of `af`
+abbrev pub af_value : List Text → Text → Option Text
+af_value words id = first_of id (matches_of af_app words)
+
+-- the words behind the command's name, which clap takes, have these texts
+pub record HasAfTexts (words : List Text) (texts : AfTexts) : Type 0 where
+  pub taken : takes af_app words ≡ true
+  pub kind : af_value words (codes "kind") ≡ Some texts.kind
+  pub file : af_value words (codes "file") ≡ Some texts.file
+
+-- the words ask for a text with numbers, with these texts
+pub record IsAfQuery (words : List Text) (texts : AfTexts) : Type 0 where
+  pub rest : List Text
+  pub words_are : words ≡ codes "af" ∷ rest
+  pub has : HasAfTexts rest texts
+
 -- ---- all words
 
 -- the words are well-formed, whatever the task and the numbers: there is none, or they ask for the list of tasks, a
--- query, a check, a script's run or that of a large input
-abbrev pub AreWords : List Text → Type 0
-AreWords words =
-    (words ≡ [])
-    ⊎ ((words_are_problems words ≡ true)
-    ⊎ (((texts : SolveTexts) × IsSolveQuery words texts)
-    ⊎ (((texts : CheckTexts) × IsCheckQuery words texts)
-    ⊎ (((texts : LiveTexts) × IsLiveQuery words texts) ⊎ ((texts : BenchTexts) × IsBenchQuery words texts)))))
+-- query, a check, a script's run, that of a large input, a query by names or a text with numbers
+pub data AreWords (words : List Text) : Type 0 where
+  for_none : words ≡ [] → AreWords words
+  for_list : words_are_problems words ≡ true → AreWords words
+  for_solve : (texts : SolveTexts) → IsSolveQuery words texts → AreWords words
+  for_check : (texts : CheckTexts) → IsCheckQuery words texts → AreWords words
+  for_live : (texts : LiveTexts) → IsLiveQuery words texts → AreWords words
+  for_bench : (texts : BenchTexts) → IsBenchQuery words texts → AreWords words
+  for_names : (texts : NamesTexts) → IsNamesQuery words texts → AreWords words
+  for_af : (texts : AfTexts) → IsAfQuery words texts → AreWords words
 
 -- the words aren't `--problems` alone, and clap refuses them for a query
 pub record RefusesOthers (words : List Text) : Type 0 where
   pub no_list : words_are_problems words ≢ true
   pub refused : takes solve_app words ≢ true
 
--- there are words that ask for no check, for no script's run and for none of a large input, and, where they name no
--- command, neither for the list of tasks nor for a query
+-- there are words that ask for what no command with a name does, and, where they name no command, neither for the list
+-- of tasks nor for a query
 pub record AreUnknown (words : List Text) : Type 0 where
   pub some_words : words ≢ []
   pub no_check : (texts : CheckTexts) → ¬ IsCheckQuery words texts
   pub no_live : (texts : LiveTexts) → ¬ IsLiveQuery words texts
   pub no_bench : (texts : BenchTexts) → ¬ IsBenchQuery words texts
-  pub others : is_check words ≡ false → is_live words ≡ false → is_bench words ≡ false → RefusesOthers words
+  pub no_names : (texts : NamesTexts) → ¬ IsNamesQuery words texts
+  pub no_af : (texts : AfTexts) → ¬ IsAfQuery words texts
+  pub others : command_named words ≡ None → RefusesOthers words
 
 -- what words ask for: a row for each command
 pub data Request : Type 0 where
@@ -223,6 +306,8 @@ pub data Request : Type 0 where
   checking : CheckTexts → Request
   living : LiveTexts → Request
   benching : BenchTexts → Request
+  by_name : NamesTexts → Request
+  numbering : AfTexts → Request
   unknown : Request
 
 -- what the values of a query's options ask for
@@ -248,6 +333,17 @@ abbrev pub bench_request : Option Text → Option Text → Request
 bench_request (Some arguments) (Some seed) = benching (record { arguments = arguments; seed = seed })
 bench_request _ _ = unknown
 
+-- what the values of the options of a query by names ask for
+abbrev pub names_request : Option Text → Option Text → Option Text → Option Text → Option Text → Option Text → Request
+names_request (Some task) (Some kind) (Some file) name budget certificate = by_name
+    (record { task = task; kind = kind; file = file; name = name; budget = budget; certificate = certificate })
+names_request _ _ _ _ _ _ = unknown
+
+-- what the values of the options of a text with numbers ask for
+abbrev pub af_request : Option Text → Option Text → Request
+af_request (Some kind) (Some file) = numbering (record { kind = kind; file = file })
+af_request _ _ = unknown
+
 -- what the words behind `check` ask for
 unfoldable pub check_requested : List Text → Request
 check_requested words =
@@ -267,6 +363,18 @@ bench_requested words =
     if takes bench_app words then bench_request (bench_value words (codes "arguments"))
     (bench_value words (codes "seed")) else unknown
 
+-- what the words behind `names` ask for
+unfoldable pub names_requested : List Text → Request
+names_requested words =
+    if takes names_app words then names_request (names_value words (codes "task")) (names_value words (codes "kind"))
+    (names_value words (codes "file")) (names_value words (codes "name")) (names_value words (codes "budget"))
+    (names_value words (codes "certificate")) else unknown
+
+-- what the words behind `af` ask for
+unfoldable pub af_requested : List Text → Request
+af_requested words =
+    if takes af_app words then af_request (af_value words (codes "kind")) (af_value words (codes "file")) else unknown
+
 -- what the words of a query ask for
 unfoldable pub solve_requested : List Text → Request
 solve_requested words =
@@ -278,13 +386,19 @@ solve_requested words =
 abbrev pub other_requested : List Text → Request
 other_requested words = if words_are_problems words then problems else solve_requested words
 
+-- what words ask for, by the command that the first of them names and by the words behind it
+abbrev pub requested_by : Option CommandName → List Text → List Text → Request
+requested_by (Some command.Check) words more = check_requested more
+requested_by (Some command.Live) words more = live_requested more
+requested_by (Some command.Bench) words more = bench_requested more
+requested_by (Some command.Names) words more = names_requested more
+requested_by (Some command.Af) words more = af_requested more
+requested_by None words more = other_requested words
+
 -- what the words ask for: the version where there is none, what their command says, or else the list of tasks or a query
 abbrev pub requested : List Text → Request
 requested [] = version
-requested (word ∷ more) =
-    if bytes_eq word (codes "check") then check_requested more
-    else (if bytes_eq word (codes "live") then live_requested more
-    else (if bytes_eq word (codes "bench") then bench_requested more else other_requested (word ∷ more)))
+requested (word ∷ more) = requested_by (named word) (word ∷ more) more
 
 -- the texts of a query's words
 abbrev pub solve_texts : SolveWords → SolveTexts
@@ -319,6 +433,21 @@ live_texts words = record {
 abbrev pub bench_texts : BenchWords → BenchTexts
 bench_texts words = record { arguments = words.arguments.now; seed = words.seed.now }
 
+-- the texts of the words of a query by names
+abbrev pub names_texts : NamesWords → NamesTexts
+names_texts words = record {
+  task = words.task.now;
+  kind = words.kind.now;
+  file = words.file.now;
+  name = option_map (λ text. text.now) words.name;
+  budget = option_map (λ text. text.now) words.budget;
+  certificate = option_map (λ text. text.now) words.certificate;
+}
+
+-- the texts of the words for a text with numbers
+abbrev pub af_texts : AfWords → AfTexts
+af_texts words = record { kind = words.kind.now; file = words.file.now }
+
 -- what a command asks for
 abbrev pub request_of : Command → Request
 request_of Version = version
@@ -327,4 +456,6 @@ request_of (Solve words) = solving (solve_texts words)
 request_of (Check words) = checking (check_texts words)
 request_of (Live words) = living (live_texts words)
 request_of (Bench words) = benching (bench_texts words)
+request_of (Names words) = by_name (names_texts words)
+request_of (Af words) = numbering (af_texts words)
 request_of Unknown = unknown

@@ -2,7 +2,8 @@
 
 ghost use Rattle.std.specs.Prelude.{◌≡◌, IfOk, codes, false};
 ghost use Rattle.clap.specs.Words.{app_of, rule_of, with_rule};
-ghost use Rattle.argue_words.specs.Words.{bare_app, bench_app, check_app, live_app, option_of, script_app, solve_app, task_app};
+ghost use Rattle.argue_words.specs.Words.{af_app, bare_app, bench_app, check_app, live_app, named_app, names_app, option_of};
+ghost use Rattle.argue_words.specs.Words.{script_app, solve_app, task_app};
 
 use clap::{Arg, ArgAction, Command};
 use std::alloc::{AllocError, Global};
@@ -91,4 +92,32 @@ pub(crate) fn bench_command<'a>(alloc: Global) -> Result<Command<'a>, AllocError
         value_arg(alloc, "arguments", 'n', true),
     )?;
     with_arg(command, value_arg(alloc, "seed", 'x', true))
+}
+
+/// The command of `-p TASK`, `-f FILE` and `-k KIND`, whose words begin after the name of the command.
+#[tactic(auto, unfolding(crate::specs::Words::named_app))]
+fn named_command<'a>(alloc: Global) -> Result<Command<'a>, AllocError>
+    ensures { IfOk result (λ c. app_of c ≡ named_app) }
+{
+    with_arg(task_command(alloc)?, value_arg(alloc, "kind", 'k', true))
+}
+
+/// The command of `-p TASK`, `-k KIND`, `-f FILE` and perhaps `-a NAME`, `-b BUDGET` and `-c CERT`, whose words begin after
+/// the name of the command.
+pub(crate) fn names_command<'a>(alloc: Global) -> Result<Command<'a>, AllocError>
+    ensures { IfOk result (λ c. app_of c ≡ names_app) }
+{
+    let command = named_command(alloc)?;
+    let command = with_arg(command, value_arg(alloc, "name", 'a', false))?;
+    let command = with_arg(command, value_arg(alloc, "budget", 'b', false))?;
+    with_arg(command, value_arg(alloc, "certificate", 'c', false))
+}
+
+/// The command of `-k KIND` and `-f FILE`, whose words begin after the name of the command.
+#[tactic(auto, unfolding(crate::specs::Words::af_app))]
+pub(crate) fn af_command<'a>(alloc: Global) -> Result<Command<'a>, AllocError>
+    ensures { IfOk result (λ c. app_of c ≡ af_app) }
+{
+    let command = with_arg(bare_command(alloc), value_arg(alloc, "file", 'f', true))?;
+    with_arg(command, value_arg(alloc, "kind", 'k', true))
 }

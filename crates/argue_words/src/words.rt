@@ -3,13 +3,30 @@
 ghost use Rattle.std.specs.Prelude.{◌≡◌, ◌≢◌, IfErr, IfOk, IsErr, IsSome, List, [], ℕ, codes, map};
 ghost use Rattle.std.specs.Prelude.{string_bytes, true};
 ghost use Rattle.clap.specs.Words.{first_value, found_of, kind_of, takes};
-ghost use Rattle.argue_words.specs.Words.{AreUnknown, RefusesOthers, bench_app, bench_request, bench_requested, bench_value, check_app, check_request, check_requested, check_value, live_app, live_request, live_requested, live_value, other_requested, request_of, requested, solve_app, solve_request, solve_requested, solve_value, words_are_problems};
+ghost use Rattle.argue_words.specs.Words.{AreUnknown, RefusesOthers, af_app, af_request, af_requested, af_value, bench_app};
+ghost use Rattle.argue_words.specs.Words.{bench_request, bench_requested, bench_value, check_app, check_request};
+ghost use Rattle.argue_words.specs.Words.{check_requested, check_value, live_app, live_request, live_requested, live_value};
+ghost use Rattle.argue_words.specs.Words.{named, names_app, names_request, names_requested, names_value, other_requested};
+ghost use Rattle.argue_words.specs.Words.{request_of, requested, solve_app, solve_request, solve_requested, solve_value};
+ghost use Rattle.argue_words.specs.Words.{words_are_problems};
 
-use crate::options::{bench_command, check_command, live_command, solve_command};
+use crate::options::{
+    af_command, bench_command, check_command, live_command, names_command, solve_command,
+};
 use clap::ArgMatches;
 use clap::error::ErrorKind;
 use lists::Memory;
 use std::alloc::Global;
+
+/// A command that the first word names.
+#[derive(Clone, Copy, PartialEq, Eq)]
+pub enum CommandName {
+    Check,
+    Live,
+    Bench,
+    Names,
+    Af,
+}
 
 /// What the words ask for.
 #[derive(Clone, Copy, PartialEq, Eq)]
@@ -26,6 +43,10 @@ pub enum Command<'a> {
     Live(LiveWords<'a>),
     /// A run of a large input.
     Bench(BenchWords<'a>),
+    /// An answer to a query on a framework whose arguments have names.
+    Names(NamesWords<'a>),
+    /// The text with numbers of a framework whose arguments have names.
+    Af(AfWords<'a>),
     /// Words that clap refuses.
     Unknown,
 }
@@ -72,8 +93,30 @@ pub struct BenchWords<'a> {
     pub seed: &'a str,
 }
 
+/// The words of a query by names: the task's name, the kind and the name of the framework's file, the name of the argument
+/// that is asked about and the budget where they are given, and the name of a file for the certificate where one is
+/// wanted. Whether there is such a task and such a kind, whether the task wants the argument, and whether the budget is
+/// one, is for the caller to see.
+#[derive(Clone, Copy, PartialEq, Eq)]
+pub struct NamesWords<'a> {
+    pub task: &'a str,
+    pub kind: &'a str,
+    pub file: &'a str,
+    pub name: Option<&'a str>,
+    pub budget: Option<&'a str>,
+    pub certificate: Option<&'a str>,
+}
+
+/// The words for a text with numbers: the kind and the name of the file of a framework whose arguments have names. Whether
+/// there is such a kind is for the caller to see.
+#[derive(Clone, Copy, PartialEq, Eq)]
+pub struct AfWords<'a> {
+    pub kind: &'a str,
+    pub file: &'a str,
+}
+
 /// Reads the words after the program's name. No words ask for the version, and `--problems` alone for the list of tasks.
-/// Else the first word is `check`, `live` or `bench`, or the command is to solve; clap reads the options of its
+/// Else the first word names the command (`CommandName`), or the command is to solve; clap reads the options of its
 /// row in `options.rt`, each with one value, in any order. A command comes exactly where clap takes its options, and
 /// `Unknown` for all other words, also for those that ask for help. `Memory` is want of memory and no fault of the
 /// words; it comes only where there are words.
@@ -85,15 +128,36 @@ pub fn read_words<'a>(alloc: Global, words: &'a [String]) -> Result<Command<'a>,
     let Some((first, rest)) = words.split_first() else {
         return Ok(Command::Version);
     };
-    if first.as_str() == "check" {
-        read_check(alloc, rest)
-    } else if first.as_str() == "live" {
-        read_live(alloc, rest)
-    } else if first.as_str() == "bench" {
-        read_bench(alloc, rest)
-    } else {
-        read_other(alloc, words)
+    match named(first.as_str()) {
+        Some(CommandName::Check) => read_check(alloc, rest),
+        Some(CommandName::Live) => read_live(alloc, rest),
+        Some(CommandName::Bench) => read_bench(alloc, rest),
+        Some(CommandName::Names) => read_names(alloc, rest),
+        Some(CommandName::Af) => read_af(alloc, rest),
+        None => read_other(alloc, words),
     }
+}
+
+// The command that a word names.
+fn named(word: &str) -> Option<CommandName>
+    ensures { result ≡ named word.now }
+{
+    if word == "check" {
+        return Some(CommandName::Check);
+    }
+    if word == "live" {
+        return Some(CommandName::Live);
+    }
+    if word == "bench" {
+        return Some(CommandName::Bench);
+    }
+    if word == "names" {
+        return Some(CommandName::Names);
+    }
+    if word == "af" {
+        return Some(CommandName::Af);
+    }
+    None
 }
 
 // Whether the words are `--problems` alone.
@@ -156,6 +220,26 @@ fn read_bench<'a>(alloc: Global, words: &'a [String]) -> Result<Command<'a>, Mem
     }
 }
 
+// What the words behind `names` ask for.
+fn read_names<'a>(alloc: Global, words: &'a [String]) -> Result<Command<'a>, Memory>
+    ensures request { IfOk result (λ c. request_of c ≡ names_requested (map string_bytes words.now)) }
+{
+    match names_matches(alloc, words) {
+        Ok(matches) => Ok(names_of(&matches)),
+        Err(error) => refusal(&error),
+    }
+}
+
+// What the words behind `af` ask for.
+fn read_af<'a>(alloc: Global, words: &'a [String]) -> Result<Command<'a>, Memory>
+    ensures request { IfOk result (λ c. request_of c ≡ af_requested (map string_bytes words.now)) }
+{
+    match af_matches(alloc, words) {
+        Ok(matches) => Ok(af_of(&matches)),
+        Err(error) => refusal(&error),
+    }
+}
+
 // What clap matches on the words of a query.
 fn solve_matches<'a>(alloc: Global, words: &'a [String]) -> Result<ArgMatches<'a>, clap::Error>
     ensures taken { IfOk result (λ _. takes solve_app (map string_bytes words.now) ≡ true) }
@@ -203,6 +287,30 @@ fn bench_matches<'a>(alloc: Global, words: &'a [String]) -> Result<ArgMatches<'a
         → kind_of e ≡ ErrorKind.OutOfMemory) }
 {
     let command = bench_command(alloc)?;
+    command.try_get_matches_from(words)
+}
+
+// What clap matches on the words of a query by names.
+fn names_matches<'a>(alloc: Global, words: &'a [String]) -> Result<ArgMatches<'a>, clap::Error>
+    ensures taken { IfOk result (λ _. takes names_app (map string_bytes words.now) ≡ true) }
+    ensures values { IfOk result (λ m. (id : List ℕ)
+        → first_value (found_of m) id ≡ names_value (map string_bytes words.now) id) }
+    ensures refused { IfErr result (λ e. takes names_app (map string_bytes words.now) ≡ true
+        → kind_of e ≡ ErrorKind.OutOfMemory) }
+{
+    let command = names_command(alloc)?;
+    command.try_get_matches_from(words)
+}
+
+// What clap matches on the words of a text with numbers.
+fn af_matches<'a>(alloc: Global, words: &'a [String]) -> Result<ArgMatches<'a>, clap::Error>
+    ensures taken { IfOk result (λ _. takes af_app (map string_bytes words.now) ≡ true) }
+    ensures values { IfOk result (λ m. (id : List ℕ)
+        → first_value (found_of m) id ≡ af_value (map string_bytes words.now) id) }
+    ensures refused { IfErr result (λ e. takes af_app (map string_bytes words.now) ≡ true
+        → kind_of e ≡ ErrorKind.OutOfMemory) }
+{
+    let command = af_command(alloc)?;
     command.try_get_matches_from(words)
 }
 
@@ -269,6 +377,49 @@ fn bench_of<'a>(matches: &ArgMatches<'a>) -> Command<'a>
         return Command::Unknown;
     };
     Command::Bench(BenchWords { arguments, seed })
+}
+
+// The query by names of words that clap takes.
+fn names_of<'a>(matches: &ArgMatches<'a>) -> Command<'a>
+    ensures { request_of result ≡ names_request (first_value (found_of matches.now) (codes "task"))
+        (first_value (found_of matches.now) (codes "kind")) (first_value (found_of matches.now) (codes "file"))
+        (first_value (found_of matches.now) (codes "name")) (first_value (found_of matches.now) (codes "budget"))
+        (first_value (found_of matches.now) (codes "certificate")) }
+{
+    let Some(task) = matches.get_str("task") else {
+        return Command::Unknown;
+    };
+    let Some(kind) = matches.get_str("kind") else {
+        return Command::Unknown;
+    };
+    let Some(file) = matches.get_str("file") else {
+        return Command::Unknown;
+    };
+    let name = matches.get_str("name");
+    let units = matches.get_str("budget");
+    let certificate = matches.get_str("certificate");
+    Command::Names(NamesWords {
+        task,
+        kind,
+        file,
+        name,
+        budget: units,
+        certificate,
+    })
+}
+
+// The text with numbers of words that clap takes.
+fn af_of<'a>(matches: &ArgMatches<'a>) -> Command<'a>
+    ensures { request_of result ≡ af_request (first_value (found_of matches.now) (codes "kind"))
+        (first_value (found_of matches.now) (codes "file")) }
+{
+    let Some(kind) = matches.get_str("kind") else {
+        return Command::Unknown;
+    };
+    let Some(file) = matches.get_str("file") else {
+        return Command::Unknown;
+    };
+    Command::Af(AfWords { kind, file })
 }
 
 // The query of words that clap takes.

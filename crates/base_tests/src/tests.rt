@@ -10,6 +10,7 @@ mod definitions;
 mod edits;
 mod fields;
 mod list_tests;
+mod named_texts;
 mod notions;
 mod sets;
 mod small_frameworks;

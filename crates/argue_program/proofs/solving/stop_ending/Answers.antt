@@ -18,7 +18,7 @@ pub returns : goal.returns
 returns c =
     let told = c.in_ok-text.ensures.text (subst (λ s. IsSome (common_text s)) (sym c.status_of-status.ensures)
     (common_text-after c.args.stop)) in
-    λ name. record {
+    λ said name. record {
       status = c.status_of-status.ensures;
       keeps = c.kept_of.ensures;
       text = text_said _ _ _ told;

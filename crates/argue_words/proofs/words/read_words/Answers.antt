@@ -1,33 +1,41 @@
-use Rattle.std.proofs.Common.{codes, sym, map, ap, rules, ◌∙◌}
-use Rattle.std.specs.Str.{bytes_eq}
+use Rattle.std.proofs.Common.{◌≡◌, ◌∷◌, ◌∙◌, ap, map, rules, sym, Some}
 use Rattle.std.specs.String.{string_bytes}
-use Rattle.argue_words.proofs.RequestLaws.{bench_unknown, check_unknown, live_unknown, others_unknown}
+use Rattle.argue_words.specs.declared.words.CommandName.TheVariants as command
+use Rattle.argue_words.specs.Words.{named}
+use Rattle.argue_words.proofs.RequestLaws.{named_unknown}
 use Rattle.argue_words.proofs.words.read_words.Goals as goal
 
-pub returns-then-eq-clause-unknown : goal.returns-then-eq-clause-unknown
-returns-then-eq-clause-unknown c =
-    check_unknown (map string_bytes c.args.words.now) (map string_bytes c.in-Some.rest.now) (string_bytes c.in-Some.first.now)
-    c.read_check.result (search rules)
-    (ap (λ b. bytes_eq b (codes "check")) (sym c.as_str.ensures.value) ∙ sym c.if-eq.ensures) c.read_check.ensures.request
+pub returns-in-Some-Check-clause-unknown : goal.returns-in-Some-Check-clause-unknown
+returns-in-Some-Check-clause-unknown c =
+    let is : c.in-Some-Check.field-0 ≡ command.Check = search rules in
+    named_unknown (map string_bytes c.args.words.now) (map string_bytes c.in-Some.rest.now)
+    (string_bytes c.in-Some.first.now) command.Check c.read_check.result (search rules)
+    (ap named (sym c.as_str.ensures.value) ∙ sym c.named.ensures ∙ c.in-Some-Check.is ∙ ap Some is) c.read_check.ensures.request
 
-pub returns-then-eq-2-clause-unknown : goal.returns-then-eq-2-clause-unknown
-returns-then-eq-2-clause-unknown c =
-    live_unknown (map string_bytes c.args.words.now) (map string_bytes c.in-Some.rest.now) (string_bytes c.in-Some.first.now)
-    c.read_live.result (search rules)
-    (ap (λ b. bytes_eq b (codes "live")) (sym c.as_str-else-eq.ensures.value) ∙ sym c.if-eq-2.ensures) c.read_live.ensures.request
+pub returns-in-Some-Live-clause-unknown : goal.returns-in-Some-Live-clause-unknown
+returns-in-Some-Live-clause-unknown c =
+    let is : c.in-Some-Live.field-0 ≡ command.Live = search rules in
+    named_unknown (map string_bytes c.args.words.now) (map string_bytes c.in-Some.rest.now)
+    (string_bytes c.in-Some.first.now) command.Live c.read_live.result (search rules)
+    (ap named (sym c.as_str.ensures.value) ∙ sym c.named.ensures ∙ c.in-Some-Live.is ∙ ap Some is) c.read_live.ensures.request
 
-pub returns-then-eq-3-clause-unknown : goal.returns-then-eq-3-clause-unknown
-returns-then-eq-3-clause-unknown c =
-    bench_unknown (map string_bytes c.args.words.now) (map string_bytes c.in-Some.rest.now)
-    (string_bytes c.in-Some.first.now) c.read_bench.result (search rules)
-    (ap (λ b. bytes_eq b (codes "bench")) (sym c.as_str-else-eq-2.ensures.value) ∙ sym c.if-eq-3.ensures)
-    c.read_bench.ensures.request
+pub returns-in-Some-Bench-clause-unknown : goal.returns-in-Some-Bench-clause-unknown
+returns-in-Some-Bench-clause-unknown c =
+    let is : c.in-Some-Bench.field-0 ≡ command.Bench = search rules in
+    named_unknown (map string_bytes c.args.words.now) (map string_bytes c.in-Some.rest.now)
+    (string_bytes c.in-Some.first.now) command.Bench c.read_bench.result (search rules)
+    (ap named (sym c.as_str.ensures.value) ∙ sym c.named.ensures ∙ c.in-Some-Bench.is ∙ ap Some is) c.read_bench.ensures.request
 
-pub returns-else-eq-3-clause-unknown : goal.returns-else-eq-3-clause-unknown
-returns-else-eq-3-clause-unknown c =
-    others_unknown (map string_bytes c.args.words.now) (map string_bytes c.in-Some.rest.now)
-    (string_bytes c.in-Some.first.now) c.read_other.result (search rules)
-    (ap (λ b. bytes_eq b (codes "check")) (sym c.as_str.ensures.value) ∙ sym c.if-eq.ensures)
-    (ap (λ b. bytes_eq b (codes "live")) (sym c.as_str-else-eq.ensures.value) ∙ sym c.if-eq-2.ensures)
-    (ap (λ b. bytes_eq b (codes "bench")) (sym c.as_str-else-eq-2.ensures.value) ∙ sym c.if-eq-3.ensures)
-    c.read_other.ensures.request c.read_other.ensures.unknown
+pub returns-in-Some-Names-clause-unknown : goal.returns-in-Some-Names-clause-unknown
+returns-in-Some-Names-clause-unknown c =
+    let is : c.in-Some-Names.field-0 ≡ command.Names = search rules in
+    named_unknown (map string_bytes c.args.words.now) (map string_bytes c.in-Some.rest.now)
+    (string_bytes c.in-Some.first.now) command.Names c.read_names.result (search rules)
+    (ap named (sym c.as_str.ensures.value) ∙ sym c.named.ensures ∙ c.in-Some-Names.is ∙ ap Some is) c.read_names.ensures.request
+
+pub returns-in-Some-Af-clause-unknown : goal.returns-in-Some-Af-clause-unknown
+returns-in-Some-Af-clause-unknown c =
+    let is : c.in-Some-Af.field-0 ≡ command.Af = search rules in
+    named_unknown (map string_bytes c.args.words.now) (map string_bytes c.in-Some.rest.now)
+    (string_bytes c.in-Some.first.now) command.Af c.read_af.result (search rules)
+    (ap named (sym c.as_str.ensures.value) ∙ sym c.named.ensures ∙ c.in-Some-Af.is ∙ ap Some is) c.read_af.ensures.request

@@ -1,0 +1,14 @@
+pub mod ApxLemmas
+pub mod CommentLemmas
+pub mod DeclaredLemmas
+pub mod FrameworkLemmas
+pub mod LineLemmas
+pub mod NameLemmas
+pub mod NumberLemmas
+pub mod ReadingLemmas
+pub mod SizeLemmas
+pub mod TextLemmas
+pub mod TgfLemmas
+pub mod ToldLemmas
+pub mod TokenLemmas
+pub mod WrittenLemmas

@@ -1,0 +1,12 @@
+pub mod ApxText
+pub mod Facts
+pub mod Faults
+pub mod NamedText
+pub mod Names
+pub mod Numbered
+pub mod Reading
+pub mod Taking
+pub mod TgfText
+pub mod Told
+pub mod Views
+pub mod Written

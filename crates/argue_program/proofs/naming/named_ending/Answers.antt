@@ -1,0 +1,8 @@
+use Rattle.std.proofs.Common.{Ok, Err}
+use Rattle.argue_program.proofs.RowsLemmas.{ends_session}
+use Rattle.argue_program.proofs.naming.named_ending.Goals as goal
+
+pub returns-in-Err : goal.returns-in-Err
+returns-in-Err c =
+    ends_session c.args.named.session (Err c.in-Err.stop) c.args.named.text _ c.stop_ending.result c.in-Err.is
+    (c.stop_ending.ensures _ _)
