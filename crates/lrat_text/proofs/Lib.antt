@@ -1,0 +1,11 @@
+pub mod CheckStates
+pub mod CnfLines
+pub mod CnfWithin
+pub mod Courses
+pub mod KeptLines
+pub mod LineCauses
+pub mod LineForms
+pub mod LineParts
+pub mod NamedSteps
+pub mod Soundness
+pub mod Spellings

@@ -1,0 +1,60 @@
+//! Writing a log as two texts.
+
+ghost use Rattle.std.specs.Prelude.{◌≡◌, ◌<◌, ◌≤◌, length, Ok, IfOk};
+ghost use Rattle.num_text.specs.declared.limit.TheConstants.{MAX_INPUT};
+ghost use Rattle.plain_lits.specs.Checking.{HaveRoomFor};
+ghost use Rattle.plain_lits.specs.Literals.{LitsRise};
+ghost use Rattle.hinted_log.specs.Logs.{clauses_of};
+ghost use Rattle.lrat_text.specs.CnfText.{IsCnfText};
+ghost use Rattle.lrat_text.specs.LratText.{IsChecked};
+ghost use Rattle.lrat_text.specs.declared.cnf.TheConstants.{MAX_VARIABLE};
+ghost use Rattle.lrat_text.specs.declared.verdict.Verdict.TheVariants.{Verified};
+ghost use Rattle.lrat_writing.specs.Texts.{cnf_text, lrat_text};
+ghost use Rattle.lrat_writing.specs.Walks.{formula_of, last_clause, step_lines};
+
+use crate::clauses::cnf_of;
+use crate::steps::lrat_of;
+use hinted_log::Log;
+use lists::{Bytes, Memory};
+use std::alloc::Global;
+
+/// The texts that stand for a log.
+pub struct Written {
+    /// The clauses that are given, and the negation of each literal of the last step.
+    pub cnf: Bytes,
+    /// The derived steps, and the line without literals.
+    pub lrat: Bytes,
+}
+
+// By hand, so that a drop is one call (docs/PROVING.md).
+impl Drop for Written {
+    fn drop(self) {
+        let Written { cnf: _, lrat: _ } = self;
+    }
+}
+
+/// The texts that stand for a log whose last clause follows from the clauses that are given: a CNF of `vars` variables,
+/// of which that of the log's variable v is v + 1, and a refutation of it. The clauses are those of axioms and sides in
+/// order, and then for each literal of the last clause its negation. The lines are the derived steps, each with the hints
+/// that its check looked at, and the line without literals, whose hints are those negations and then the last step. Where
+/// the CNF is no longer than a text may be, it reads as these clauses; and where its refutation is not either, the check
+/// tells [`lrat_text::Verdict::Verified`]. `Memory` says that an allocation was refused.
+pub fn write_refutation(alloc: Global, log: &Log, vars: u32) -> Result<Written, Memory>
+    requires some { 0 < length log.now.steps }
+    requires room { HaveRoomFor vars (clauses_of log.now.steps) }
+    requires few { vars ≤ MAX_VARIABLE }
+    requires rises { LitsRise (last_clause log.now.steps) }
+    ensures cnf { IfOk result (λ w. w.cnf ≡ cnf_text (formula_of vars log.now.steps)) }
+    ensures lrat { IfOk result (λ w. w.lrat ≡ lrat_text (step_lines log.now.steps)) }
+    ensures reads { IfOk result (λ w. length w.cnf ≤ MAX_INPUT → IsCnfText w.cnf (formula_of vars log.now.steps)) }
+    ensures verified { IfOk result (λ w. length w.cnf ≤ MAX_INPUT
+        → IsChecked (formula_of vars log.now.steps) w.lrat (Ok Verified)) }
+{
+    let _count = log.len();
+    let cnf = cnf_of(alloc, log, vars)?;
+    let lrat = lrat_of(alloc, log)?;
+    Ok(Written {
+        cnf: Bytes::from_vec(cnf.into_bytes()),
+        lrat: Bytes::from_vec(lrat.into_bytes()),
+    })
+}
