@@ -1,0 +1,17 @@
+use Rattle.std.proofs.Common.{length, ap, arith, rules}
+use Rattle.sat_core.proofs.Fronting.{fronted_none}
+use Rattle.sat_core.proofs.Holding.{held_none, room_none}
+use Rattle.sat_core.proofs.cdcl.Cdcl.open.Goals as goal
+
+pub returns-clause-rest : goal.returns-clause-rest
+returns-clause-rest c =
+    let s = c.in_ok-search.search in
+    rw c.new-2.ensures (record {
+      held = held_none s _ _ _ _ c.in_ok-search.ensures.clauses (search rules) (search rules) (search rules)
+          c.in_ok-log.ensures.steps;
+      resting = record {
+        fronted = fronted_none s c.in_ok-search.ensures.lits c.in_ok-search.ensures.starts
+            (room_none s c.in_ok-search.ensures.clauses);
+        few = let e = ap length c.in_ok-search.ensures.starts in omega (arith, e);
+      };
+    })
