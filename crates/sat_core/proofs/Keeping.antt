@@ -123,6 +123,10 @@ derives_logs old new log active = record {
       absurd (omega arith);
 }
 
+pub derives_same : (old new : SolverState) → new ≡ old → Derives old new
+derives_same old new e =
+    derives_logs old new (ap (λ (s : SolverState). s.log) e) (ap (λ (s : SolverState). s.active) e)
+
 pub derives_trans : (a b c : SolverState) → Derives a b → Derives b c → Derives a c
 derives_trans a b c h k = record {
   keeps = keeps_trans a b c h.keeps k.keeps;

@@ -4,6 +4,7 @@ use Rattle.hinted_log.proofs.Proofs.{not_so}
 use Rattle.sat_core.specs.Mirrors.{step_of}
 use Rattle.sat_core.specs.Sleeping.{AreSleepers, HasNoSubsumingSleeper}
 use Rattle.sat_core.specs.Turns.{state_of}
+use Rattle.sat_core.proofs.Keeping.{derives_same}
 use Rattle.sat_core.proofs.Running.{has_decided, has_settled}
 use Rattle.sat_core.proofs.Turning.{known_of, ids_of, named_of, unit_learned}
 use Rattle.sat_core.proofs.cdcl.Cdcl.learn_from.Goals as goal
@@ -125,3 +126,17 @@ returns-clause-goes c =
         new_state = c.in_ok-take.ensures.state;
       };
     }
+
+pub returns-in-Some-clause-goes : goal.returns-in-Some-clause-goes
+returns-in-Some-clause-goes c = record {
+  unspent = refl;
+  run = c.in_ok-wake.ensures.run;
+  state = c.in_ok-wake.ensures.state;
+  fewer = c.in_ok-wake.ensures.fewer;
+}
+
+pub returns-in-Some-clause-derives : goal.returns-in-Some-clause-derives
+returns-in-Some-clause-derives c = derives_same _ _ c.in_ok-wake.ensures.state
+
+pub returns-in_err-wake-clause-derives : goal.returns-in_err-wake-clause-derives
+returns-in_err-wake-clause-derives c = derives_same _ _ c.in_err-wake.ensures.state
