@@ -1,6 +1,7 @@
 -- What comes of a conflict, and what a turn makes of it.
-use Rattle.std.proofs.Common.{◌≡◌, ℕ, ◌<◌, ◌+◌, List, length, Option, Some, None}
+use Rattle.std.proofs.Common.{◌≡◌, ℕ, ◌<◌, ◌+◌, List, length, Option, Some, None, Result, Ok, Err}
 use Rattle.std.proofs.Common.{arith, ap, sym, subst, ◌∙◌, refl}
+use Rattle.std.specs.Prelude.{OnOk, OnErr}
 use Rattle.plain_lits.specs.declared.lit.Lit.{Lit}
 use Rattle.plain_lits.specs.declared.halt.Halt.{Halt}
 use Rattle.plain_lits.specs.declared.halt.Halt.TheVariants.{Spent, LogFull, Memory}
@@ -12,7 +13,16 @@ use Rattle.sat_core.specs.declared.cdcl.Resolved.{Resolved}
 use Rattle.sat_core.specs.declared.cdcl.Resolved.TheVariants.{Learned, Woken, Ended}
 use Rattle.sat_core.specs.declared.sleepers.Sleeper.{Sleeper}
 use Rattle.sat_core.specs.Solving.{SolverState, Derives, EndsCore, StopsAs}
-use Rattle.sat_core.specs.Turns.{state_of, Runs, Goes, LearnsOne, Resolves, NotEnded, EndsAt, HasRested, IsTurn}
+use Rattle.sat_core.specs.Turns.{state_of, IsKept, IsAtRest, Runs, Goes, LearnsOne, Resolves, NotEnded, EndsAt, HasRested, IsTurn}
+
+-- where a search can't begin again it is at rest
+pub kept_of : (c : Cdcl) → IsAtRest c → IsKept c
+kept_of c r = record { held = r.held; fronted = r.resting.fronted }
+
+pub kept_either : {T E : Type 0} (result : Result T E) (c : Cdcl) → OnOk result (IsKept c)
+    → OnErr result (IsAtRest c) → IsKept c
+kept_either (Ok x) c kept rest = kept
+kept_either (Err e) c kept rest = kept_of c rest
 
 -- a return to the second level follows
 pub resolves_on : (old : SolverState) (many : ℕ) (mid new : Cdcl) (assumptions : List Lit) (before after : Units)
