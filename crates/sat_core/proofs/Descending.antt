@@ -108,19 +108,22 @@ said (inl p) = true
 said (inr n) = false
 
 said_true : {P : Type 0} (d : P ⊎ (P → ⊥)) → said d ≡ true → P
+unfolding said
 said_true (inl p) e = p
-said_true (inr n) e = cc
+said_true (inr n) e = let bad : true ≡ false = sym e in absurd (not_itself true bad)
 
 said_of : {P : Type 0} (d : P ⊎ (P → ⊥)) → P → said d ≡ true
+unfolding said
 said_of (inl p) q = refl
 said_of (inr n) q = absurd (n q)
 
 said_false : {P : Type 0} (d : P ⊎ (P → ⊥)) → (P → ⊥) → said d ≡ false
+unfolding said
 said_false (inl p) n = absurd (n p)
 said_false (inr m) n = refl
 
 -- the true literals as a reading of the variables
-truth_of : List Lit → ℕ → Bool
+abbrev truth_of : List Lit → ℕ → Bool
 truth_of lits v = said (decide lits (record { var = v; positive = true }))
 
 reads_true : (lits : List Lit) (v : ℕ) (positive : Bool) → VarsDiffer lits

@@ -1,4 +1,4 @@
-use Rattle.std.proofs.Common.{◌≡◌, ◌++◌, ◌∷◌, [], length, length-append, ap, sym, subst, ◌∙◌, arith, rules}
+use Rattle.std.proofs.Common.{◌≡◌, ◌++◌, ◌∷◌, [], length, length-append, ap, sym, subst, ◌∙◌, refl, arith, rules}
 use Rattle.std.specs.Prelude.{Contains}
 use Rattle.sat_core.proofs.Running.{resting_stays, resting_more}
 use Rattle.sat_core.proofs.Searching.{recorded_of}
