@@ -1,12 +1,14 @@
 use Rattle.std.proofs.Common.{◌≡◌, arith, sym, subst, ◌∙◌, refl, map}
 use Rattle.std.specs.Prelude.{Contains}
+use Rattle.plain_lits.specs.Literals.{negation}
+use Rattle.plain_lits.specs.HintCheck.{IsTautology}
 use Rattle.hinted_log.proofs.Proofs.{not_so}
 use Rattle.sat_core.specs.Mirrors.{step_of}
 use Rattle.sat_core.specs.Sleeping.{AreSleepers, HasNoSubsumingSleeper}
 use Rattle.sat_core.specs.Turns.{state_of}
 use Rattle.sat_core.proofs.Keeping.{derives_same}
 use Rattle.sat_core.proofs.Running.{has_decided, has_settled}
-use Rattle.sat_core.proofs.Turning.{known_of, ids_of, named_of, unit_learned}
+use Rattle.sat_core.proofs.Turning.{known_of, ids_of, named_of, unit_learned, plain_of}
 use Rattle.sat_core.proofs.cdcl.Cdcl.learn_from.Goals as goal
 
 pub learn-requires-clause-decided : goal.learn-requires-clause-decided
@@ -130,13 +132,19 @@ returns-clause-goes c =
 pub returns-in-Some-clause-goes : goal.returns-in-Some-clause-goes
 returns-in-Some-clause-goes c = record {
   unspent = refl;
-  run = c.in_ok-wake.ensures.run;
-  state = c.in_ok-wake.ensures.state;
-  fewer = c.in_ok-wake.ensures.fewer;
+  run = c.in_ok-wake-in-Some.ensures.run;
+  state = c.in_ok-wake-in-Some.ensures.state;
+  fewer = c.in_ok-wake-in-Some.ensures.fewer;
 }
 
 pub returns-in-Some-clause-derives : goal.returns-in-Some-clause-derives
-returns-in-Some-clause-derives c = derives_same _ _ c.in_ok-wake.ensures.state
+returns-in-Some-clause-derives c = derives_same _ _ c.in_ok-wake-in-Some.ensures.state
 
-pub returns-in_err-wake-clause-derives : goal.returns-in_err-wake-clause-derives
-returns-in_err-wake-clause-derives c = derives_same _ _ c.in_err-wake.ensures.state
+pub returns-in_err-wake-in-Some-clause-derives : goal.returns-in_err-wake-in-Some-clause-derives
+returns-in_err-wake-in-Some-clause-derives c = derives_same _ _ c.in_err-wake-in-Some.ensures.state
+
+pub subsuming_sleeper-requires-clause-plain : goal.subsuming_sleeper-requires-clause-plain
+subsuming_sleeper-requires-clause-plain c =
+    subst (λ xs. IsTautology negation xs → ⊥) (sym c.as_slice.ensures.lits)
+    (plain_of c.args.self.now.decisions.search c.in_ok-learned.learned.clause c.in_ok-learned.learned.hints
+    c.in_ok-learned.ensures.learned)

@@ -13,7 +13,8 @@ returns-in-Learned-clause-derives c =
 
 pub returns-in-Ended-clause-turn : goal.returns-in-Ended-clause-turn
 returns-in-Ended-clause-turn c =
-    ends_from _ _ _ _ _ _ _ _ c.sleepers.invariant.state c.sleepers.invariant.used c.in-Ended.ensures.resolves
+    ends_from _ _ c.attempt.new.self _ c.sleepers.budget c.args.budget.now _ _ c.sleepers.invariant.state
+    c.sleepers.invariant.used c.in-Ended.ensures.resolves
 
 pub returns-in-Ended-clause-derives : goal.returns-in-Ended-clause-derives
 returns-in-Ended-clause-derives c =
