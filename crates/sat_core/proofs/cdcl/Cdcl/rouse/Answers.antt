@@ -14,7 +14,8 @@ pub returns-in_err-add-clause-rest : goal.returns-in_err-add-clause-rest
 returns-in_err-add-clause-rest c =
     let stays = c.in_err-add.ensures.err in
     record {
-      held = held_as _ _ _ _ _ _ _ _ c.args.self.now.logged.log _ stays.clauses stays.assigned.vars c.reserve.ensures.items refl refl refl
+      held = held_as _ _ _ _ _ _ _ _ c.args.self.now.logged.log _ stays.clauses stays.assigned.vars
+          c.reserve.ensures.items refl refl refl
           c.requires.rest.held;
       resting = resting_stays _ _ _ c.vars-form.ensures.form stays c.requires.rest.resting;
     }
