@@ -112,3 +112,15 @@ returns-clause-derives c =
     (subst (λ xs. IsShown (state_of c.args.self.now) xs c.args.hints.now) (sym c.in_ok-clause.ensures)
     c.requires.shown.shown)
     (state_learned (state_of c.args.self.now) _ _ _ _ _ c.in_ok-step.ensures.ok pushed)
+
+pub returns-in_err-reserve-clause-derives : goal.returns-in_err-reserve-clause-derives
+returns-in_err-reserve-clause-derives c = derives_logs _ _ refl c.reserve.ensures.items
+
+pub returns-in_err-reserve-2-clause-derives : goal.returns-in_err-reserve-2-clause-derives
+returns-in_err-reserve-2-clause-derives c = derives_logs _ _ refl c.reserve.ensures.items
+
+pub returns-in_err-push_levels-clause-derives : goal.returns-in_err-push_levels-clause-derives
+returns-in_err-push_levels-clause-derives c = derives_logs _ _ refl c.reserve.ensures.items
+
+pub returns-in_err-clause-clause-derives : goal.returns-in_err-clause-clause-derives
+returns-in_err-clause-clause-derives c = derives_logs _ _ refl c.reserve.ensures.items
