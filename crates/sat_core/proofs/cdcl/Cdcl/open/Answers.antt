@@ -6,7 +6,7 @@ use Rattle.sat_core.proofs.cdcl.Cdcl.open.Goals as goal
 pub returns-clause-rest : goal.returns-clause-rest
 returns-clause-rest c =
     let s = c.in_ok-search.search in
-    rw c.new-2.ensures (record {
+    rw c.new.ensures (record {
       held = held_none s _ _ _ _ c.in_ok-search.ensures.clauses (search rules) (search rules) (search rules)
           c.in_ok-log.ensures.steps;
       resting = record {
