@@ -1,8 +1,7 @@
 -- The steps in use, of which each is the propagator's or asleep.
-use Rattle.std.proofs.Common.{◌≡◌, ◌≢◌, ℕ, ◌<◌, ◌≤◌, ◌+◌, ◌-◌, List, [], ◌∷◌, ◌++◌, length, get_or, take, remove}
+use Rattle.std.proofs.Common.{◌≡◌, ℕ, ◌<◌, ◌≤◌, ◌+◌, ◌-◌, List, [], ◌∷◌, ◌++◌, length, get_or, remove}
 use Rattle.std.proofs.Common.{arith, ap, sym, subst, ◌∙◌, refl, inl, inr, ⊎_elim, length-append}
 use Rattle.std.specs.Prelude.{◌⊎◌, Contains}
-use Rattle.std.specs.List.Sorted.{IsStrictlyIncreasing}
 use Rattle.std.proofs.Math.Seq.{get_or-append_seam}
 use Rattle.std.proofs.lemmas.Bool.{cases_lt}
 use Rattle.std.proofs.lemmas.List.{get_or_append_left, get_or_default}
@@ -11,13 +10,13 @@ use Rattle.std.proofs.lemmas.List.Elements.{Contains-push_cases, Contains-append
 use Rattle.lists.proofs.Membership.{Contains-nil}
 use Rattle.plain_lits.specs.declared.lit.Lit.{Lit}
 use Rattle.plain_lits.specs.HintCheck.{IsNamed}
-use Rattle.hinted_log.specs.Logs.{Step, LogState, IsLog, IsStepOf, step_at, derived_step, no_step, log_of}
+use Rattle.hinted_log.specs.Logs.{Step, LogState, IsLog, IsStepOf, step_at, derived_step, no_step}
 use Rattle.hinted_log.specs.declared.step_kind.StepKind.TheVariants.{Derived}
 use Rattle.unit_propagate.specs.Search.{Search, GainsClause}
 use Rattle.sat_core.specs.declared.sleepers.Sleeper.{Sleeper}
 use Rattle.sat_core.specs.declared.loading.Loaded.{Loaded}
 use Rattle.sat_core.specs.Solving.{SolverState, IsSolver, clause_of}
-use Rattle.sat_core.specs.Mirrors.{IsMirror, IsDerived, step_of}
+use Rattle.sat_core.specs.Mirrors.{IsMirror, IsDerived}
 use Rattle.sat_core.specs.Runs.{GoesOn, HasRoom}
 use Rattle.sat_core.specs.Sleeping.{IsSleeper, AreSleepers, SleepsAs, IsAsleep, AreShared, IsHeld, AreLoaded}
 use Rattle.sat_core.proofs.Mirroring.{id_of, mirror_grown, mirror_pushed, rises_pushed, clause_kept, step_kept}
@@ -233,13 +232,20 @@ removed_or asleep index x within c =
     let at_lt = c.1 in
     let long = length-remove asleep index within in
     ⊎_elim
-    (λ (low : c.0 < index). inr (c.0, omega (arith, low, within, long),
-        get_or-remove_below asleep index x c.0 low within ∙ c.2))
+    (λ (low : c.0 < index). inr (
+      c.0,
+      omega (arith, low, within, long),
+      get_or-remove_below asleep index x c.0 low within ∙ c.2,
+    ))
     (λ high. ⊎_elim
     (λ (above : index < c.0).
     let same : c.0 - 1 + 1 ≡ c.0 = omega arith in
-    inr (c.0 - 1, omega (arith, at_lt, above, long),
-        get_or-remove_above asleep index x (c.0 - 1) (omega (arith, above)) within ∙ (ap (λ k. get_or asleep k x) same ∙ c.2)))
+    inr (
+      c.0 - 1,
+      omega (arith, at_lt, above, long),
+      get_or-remove_above asleep index x (c.0 - 1) (omega (arith, above)) within
+          ∙ (ap (λ k. get_or asleep k x) same ∙ c.2),
+    ))
     (λ le.
     let e : index ≡ c.0 = omega (arith, high, le) in
     inl (λ d. ap (λ k. get_or asleep k d) e ∙ (get_or_default asleep c.0 d x at_lt ∙ c.2)))
@@ -252,9 +258,16 @@ removed_from asleep index x within c =
     let at_lt = c.1 in
     let long = length-remove asleep index within in
     ⊎_elim
-    (λ (low : c.0 < index). (c.0, omega (arith, low, within), sym (get_or-remove_below asleep index x c.0 low within) ∙ c.2))
-    (λ high. (c.0 + 1, omega (arith, at_lt, long),
-        sym (get_or-remove_above asleep index x c.0 high within) ∙ c.2))
+    (λ (low : c.0 < index). (
+      c.0,
+      omega (arith, low, within),
+      sym (get_or-remove_below asleep index x c.0 low within) ∙ c.2,
+    ))
+    (λ high. (
+      c.0 + 1,
+      omega (arith, at_lt, long),
+      sym (get_or-remove_above asleep index x c.0 high within) ∙ c.2,
+    ))
     (cases_lt c.0 index)
 
 pub fewer_asleep : (asleep : List Sleeper) (index : ℕ) → index < length asleep

@@ -1,9 +1,8 @@
 -- What comes of a conflict, and what a turn makes of it.
-use Rattle.std.proofs.Common.{◌≡◌, ℕ, ◌<◌, ◌+◌, List, length, Option, Some, None, Result, Ok, Err}
-use Rattle.std.proofs.Common.{arith, ap, sym, subst, ◌∙◌, refl}
+use Rattle.std.proofs.Common.{◌≡◌, ℕ, ◌+◌, List, length, Option, Some, None, Result, Ok, Err}
+use Rattle.std.proofs.Common.{arith, ap, sym, subst, ◌∙◌}
 use Rattle.std.specs.Prelude.{OnOk, OnErr}
 use Rattle.plain_lits.specs.declared.lit.Lit.{Lit}
-use Rattle.plain_lits.specs.declared.halt.Halt.{Halt}
 use Rattle.plain_lits.specs.declared.halt.Halt.TheVariants.{Spent, LogFull, Memory}
 use Rattle.plain_lits.specs.Units.{Units}
 use Rattle.sat_core.specs.declared.cdcl.Cdcl.{Cdcl}
@@ -13,7 +12,8 @@ use Rattle.sat_core.specs.declared.cdcl.Resolved.{Resolved}
 use Rattle.sat_core.specs.declared.cdcl.Resolved.TheVariants.{Learned, Woken, Ended}
 use Rattle.sat_core.specs.declared.sleepers.Sleeper.{Sleeper}
 use Rattle.sat_core.specs.Solving.{SolverState, Derives, EndsCore, StopsAs}
-use Rattle.sat_core.specs.Turns.{state_of, IsKept, IsAtRest, Runs, Goes, LearnsOne, Resolves, NotEnded, EndsAt, HasRested, IsTurn}
+use Rattle.sat_core.specs.Turns.{state_of, IsKept, IsAtRest, Runs, Goes, LearnsOne, Resolves, NotEnded, EndsAt}
+use Rattle.sat_core.specs.Turns.{HasRested, IsTurn}
 
 -- where a search can't begin again it is at rest
 pub kept_of : (c : Cdcl) → IsAtRest c → IsKept c
@@ -51,8 +51,8 @@ resolves_on old many mid new assumptions before after Woken e e2 run g k = recor
 resolves_on old many mid new assumptions before after (Ended ended) e e2 run g k = absurd k
 
 -- a search ends, seen from an equal state
-pub ends_from : (old first : SolverState) (new : Cdcl) (assumptions : List Lit) (units before after : Units) (ended : End)
-    → old ≡ first → units.used ≡ before.used → EndsAt old new assumptions units after ended
+pub ends_from : (old first : SolverState) (new : Cdcl) (assumptions : List Lit) (units before after : Units)
+    (ended : End) → old ≡ first → units.used ≡ before.used → EndsAt old new assumptions units after ended
     → EndsAt first new assumptions before after ended
 ends_from old first new assumptions units before after Satisfied e u h = (h.0 ∙ u, h.1 ∙ e, h.2)
 ends_from old first new assumptions units before after (Refuted step) e u h =

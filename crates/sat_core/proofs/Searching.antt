@@ -9,7 +9,7 @@ use Rattle.plain_lits.specs.Literals.{negation}
 use Rattle.plain_lits.specs.declared.halt.Halt.{Halt}
 use Rattle.plain_lits.specs.declared.halt.Halt.TheVariants.{Spent, LogFull, Memory}
 use Rattle.plain_lits.specs.Units.{Units}
-use Rattle.hinted_log.specs.Logs.{Step, LogState, IsLog, IsStepOf, derived_step}
+use Rattle.hinted_log.specs.Logs.{Step, LogState, derived_step}
 use Rattle.sat_core.specs.declared.answer.Added.{Added}
 use Rattle.sat_core.specs.declared.answer.Added.TheVariants.{Axiom, Side, Derived}
 use Rattle.sat_core.specs.declared.answer.Solved.{Solved}
@@ -18,7 +18,7 @@ use Rattle.sat_core.specs.declared.cdcl.Cdcl.{Cdcl}
 use Rattle.sat_core.specs.declared.cdcl.End.{End}
 use Rattle.sat_core.specs.declared.cdcl.End.TheVariants.{Satisfied, Refuted, Stopped}
 use Rattle.sat_core.specs.Solving.{SolverState, Learns, one_more, IsModel}
-use Rattle.sat_core.specs.Solving.{HasSearched, IsSolver, begun, Records}
+use Rattle.sat_core.specs.Solving.{HasSearched, begun, Records}
 use Rattle.sat_core.specs.Turns.{state_of, LearnsOne, EndsAt, StopsAt, HasRun, Tells}
 use Rattle.lists.proofs.TruthValues.{not_itself}
 

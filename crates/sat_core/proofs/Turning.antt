@@ -116,14 +116,16 @@ core_served state front s assumptions clause number shallow run assumed subsumin
   closed = inl refl;
 }
 
-pub core_shown : (state : SolverState) (awake : List ℕ) (asleep : List Sleeper) (s : Search) (clause : List Lit) (ids hints : List ℕ)
+pub core_shown : (state : SolverState) (awake : List ℕ) (asleep : List Sleeper) (s : Search) (clause : List Lit)
+    (ids hints : List ℕ)
     → AreShared s.clauses awake asleep state.active state.log.steps → IsLearned s.clauses s.lits clause ids
     → hints ≡ map (step_of awake) ids → IsShown state clause hints
 core_shown state awake asleep s clause ids hints share l e =
-    subst (IsShown state clause) (sym e) (shown_of state s.clauses awake asleep clause ids share l.taken l.used l.from_hints)
+    subst (IsShown state clause) (sym e)
+    (shown_of state s.clauses awake asleep clause ids share l.taken l.used l.from_hints)
 
-pub core_derived : (state : SolverState) (awake : List ℕ) (asleep : List Sleeper) (log : LogState) (front : List Lit) (s : Search)
-    (assumptions clause : List Lit) (ids hints : List ℕ) (number : ℕ)
+pub core_derived : (state : SolverState) (awake : List ℕ) (asleep : List Sleeper) (log : LogState) (front : List Lit)
+    (s : Search) (assumptions clause : List Lit) (ids hints : List ℕ) (number : ℕ)
     → AreShared s.clauses awake asleep state.active state.log.steps → length s.starts ≤ 2 → IsRun front assumptions s
     → IsLearned s.clauses s.lits clause ids → ((x : Lit) → Contains clause x → IsAssumed s x)
     → HasNoSubsuming state.log.steps clause → hints ≡ map (step_of awake) ids

@@ -15,8 +15,9 @@ use crate::answer::{Added, Solved, UnaddedClause};
 use crate::decision_loop::{DecisionLoop, bump_all};
 use crate::fronts::{begins_with, has_false, size_of_front};
 use crate::loading::{Loaded, load, unpacked};
-use crate::logged_clauses::{LoggedClauses, derive, push_levels, record, steps_of, subsuming_sleeper};
-use crate::logged_clauses::subsuming_step;
+use crate::logged_clauses::{
+    LoggedClauses, derive, push_levels, record, steps_of, subsuming_sleeper, subsuming_step,
+};
 use crate::pace::levels_of;
 use crate::sleepers::{bar_of, counts_of, sleeper_at};
 use conflict_learn::{Core, Learned, Learner};
@@ -28,6 +29,7 @@ use unit_propagate::Propagator;
 
 /// How many conflicts come before clauses fall asleep for the first time, and how many more each further time.
 const CONFLICTS_AWAKE: u64 = 2000;
+
 const MORE_CONFLICTS: u64 = 300;
 
 /// How a search ends: all is true, or a step refutes the assumptions, or it stops.
@@ -298,7 +300,8 @@ impl Cdcl {
         }
         match self.learn_from(assumptions, conflict, budget) {
             Ok(resolved) => {
-                self.decisions.count_conflict(last_of(self.logged.levels.as_slice()));
+                self.decisions
+                    .count_conflict(last_of(self.logged.levels.as_slice()));
                 resolved
             }
             Err(halt) => Resolved::Ended(End::Stopped(halt)),
@@ -354,7 +357,12 @@ impl Cdcl {
         ensures rested { HasRested self.new assumptions.now result }
     {
         self.tired = self.tired.saturating_add(1);
-        if self.tired < self.naps.saturating_mul(MORE_CONFLICTS).saturating_add(CONFLICTS_AWAKE) {
+        if self.tired
+            < self
+                .naps
+                .saturating_mul(MORE_CONFLICTS)
+                .saturating_add(CONFLICTS_AWAKE)
+        {
             return None;
         }
         self.tired = 0;
@@ -390,7 +398,14 @@ impl Cdcl {
         let vars = self.decisions.search.vars();
         let log = &self.logged.log;
         let bar = bar_of(self.alloc, &self.logged.levels)?;
-        let counts = counts_of(self.alloc, log, &self.logged.awake, &self.logged.levels, bar, vars)?;
+        let counts = counts_of(
+            self.alloc,
+            log,
+            &self.logged.awake,
+            &self.logged.levels,
+            bar,
+            vars,
+        )?;
         let loaded = load(
             self.alloc,
             log,

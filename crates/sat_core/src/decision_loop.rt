@@ -20,8 +20,8 @@ const CONFLICTS_A_RUN: u64 = 20;
 /// How many conflicts come before the first restart.
 const YOUNG: u64 = 200;
 
-/// A propagator, the order of decisions, and when it begins anew: by its `pace`, after so many `conflicts`. No variable below `next`
-/// has lost its value since all below it had one; `released` counts the literals that have lost theirs.
+/// A propagator, the order of decisions, and when it begins anew: by its `pace`, after so many `conflicts`. No variable
+/// below `next` has lost its value since all below it had one; `released` counts the literals that have lost theirs.
 
 pub(crate) struct DecisionLoop {
     pub(crate) search: Propagator,

@@ -15,10 +15,10 @@ const MOST_LEVELS: usize = 1_000_000;
 /// One in the averages.
 const ONE: u64 = 1 << 20;
 
-/// Averages of how many levels the learned clauses had, each weighted by how late it came: `short` over some 32 of them,
-/// `long` over some 4,096. Where the short one is well above the long one, a search has come to where little is to be
-/// learned (Audemard and Simon, Refining restarts strategies for SAT and UNSAT, 2012; Biere and Fröhlich, Evaluating
-/// CDCL restart schemes, 2015). Both begin at none, so that a young search begins anew often.
+/// Averages of how many levels the learned clauses had, each weighted by how late it came: `short` over some 32 of
+/// them, `long` over some 4,096. Where the short one is well above the long one, a search has come to where little is
+/// to be learned (Audemard and Simon, Refining restarts strategies for SAT and UNSAT, 2012; Biere and Fröhlich,
+/// Evaluating CDCL restart schemes, 2015). Both begin at none, so that a young search begins anew often.
 #[derive(Clone, Copy)]
 pub(crate) struct Pace {
     short: u64,
@@ -34,8 +34,14 @@ impl Pace {
     /// A clause with so many levels was learned.
     pub(crate) fn note(&mut self, levels: u32) {
         let levels = (levels as u64).saturating_mul(ONE);
-        self.short = self.short.saturating_sub(self.short / 32).saturating_add(levels / 32);
-        self.long = self.long.saturating_sub(self.long / 4096).saturating_add(levels / 4096);
+        self.short = self
+            .short
+            .saturating_sub(self.short / 32)
+            .saturating_add(levels / 32);
+        self.long = self
+            .long
+            .saturating_sub(self.long / 4096)
+            .saturating_add(levels / 4096);
     }
 
     /// Whether the last clauses had more levels than the others by a ninth.

@@ -72,7 +72,8 @@ returns-clause-derives c =
     c.in_ok-clause.field-0.hints =
     rw (c.as_slice-3.ensures, c.in_ok-hints.ensures, c.deref.ensures.value, c.as_slice-2.ensures) refl in
     derives_derived (state_of c.args.self.now) _ _ _ _
-    (core_shown (state_of c.args.self.now) c.args.self.now.logged.awake.items c.args.self.now.logged.asleep.items s _ _ _ c.requires.kept.held.shared c.in_ok-clause.ensures.learned hints)
+    (core_shown (state_of c.args.self.now) c.args.self.now.logged.awake.items c.args.self.now.logged.asleep.items s _ _
+    _ c.requires.kept.held.shared c.in_ok-clause.ensures.learned hints)
     c.in_ok-step.ensures.ok refl
 
 pub returns-in_err-step-clause-derives : goal.returns-in_err-step-clause-derives

@@ -97,7 +97,8 @@ returns-then-not-spend-clause-stops c =
           in_hand = record { clause = c.in_ok-learned.learned.clause; hints = c.in_ok-hints.hints };
           kept = refl;
           further = unit_learned _ c.args.self.now.logged.awake.items
-              c.args.self.now.logged.asleep.items c.args.self.now.front.items s c.args.assumptions.now c.in_ok-learned.learned.clause
+              c.args.self.now.logged.asleep.items c.args.self.now.front.items s c.args.assumptions.now
+              c.in_ok-learned.learned.clause
               c.in_ok-learned.learned.hints c.in_ok-hints.hints c.requires.kept.held.shared c.vars-form.ensures.form
               c.requires.run c.in_ok-learned.ensures.learned (c.in_ok-learned.ensures.new settled) none hints;
         },
@@ -121,7 +122,7 @@ returns-clause-goes c =
         clause = c.in_ok-learned.learned.clause;
         hints = c.as_slice-5.result.now;
         learned = unit_learned (state_of c.args.self.now) c.args.self.now.logged.awake.items
-    c.args.self.now.logged.asleep.items c.args.self.now.front.items s c.args.assumptions.now
+            c.args.self.now.logged.asleep.items c.args.self.now.front.items s c.args.assumptions.now
             c.in_ok-learned.learned.clause
             c.in_ok-learned.learned.hints _ c.requires.kept.held.shared c.vars-form.ensures.form c.requires.run
             c.in_ok-learned.ensures.learned (c.in_ok-learned.ensures.new settled) none hints;

@@ -1,4 +1,4 @@
-use Rattle.std.proofs.Common.{◌∙◌, arith, refl}
+use Rattle.std.proofs.Common.{◌∙◌, refl}
 use Rattle.sat_core.proofs.Resolving.{ends_from, rested_turn, derives_from}
 use Rattle.sat_core.proofs.cdcl.Cdcl.turn.Goals as goal
 

@@ -1,4 +1,4 @@
-use Rattle.std.proofs.Common.{◌≡◌, [], rules}
+use Rattle.std.proofs.Common.{rules}
 use Rattle.sat_core.proofs.Holding.{loaded_none}
 use Rattle.sat_core.proofs.loading.Loaded.open.Goals as goal
 

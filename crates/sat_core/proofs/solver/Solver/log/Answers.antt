@@ -4,4 +4,5 @@ use Rattle.sat_core.proofs.solver.Solver.log.Goals as goal
 
 pub returns-clause-form : goal.returns-clause-form
 returns-clause-form c =
-    rw (← c.self.view_is) (solver_form (state_of c.self.inside.cdcl) _ _ _ c.len-form.ensures.form c.self.invariant.held)
+    rw (← c.self.view_is)
+    (solver_form (state_of c.self.inside.cdcl) _ _ _ c.len-form.ensures.form c.self.invariant.held)
