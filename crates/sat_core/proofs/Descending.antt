@@ -1,5 +1,5 @@
 -- What a descent finds.
-use Rattle.std.proofs.Common.{◌≡◌, ◌≢◌, ℕ, ◌<◌, ◌≤◌, ◌+◌, List, [], ◌∷◌, length, Bool, true, false}
+use Rattle.std.proofs.Common.{◌≡◌, ◌≢◌, ℕ, ◌<◌, ◌≤◌, ◌+◌, List, [], ◌∷◌, length, Bool, true, false, not}
 use Rattle.std.proofs.Common.{arith, ap, sym, subst, ◌∙◌, refl, inl, inr, ⊎_elim}
 use Rattle.std.specs.Prelude.{Contains, ◌⊎◌}
 use Rattle.std.proofs.lemmas.Bool.{cases_lt}
@@ -11,14 +11,23 @@ use Rattle.plain_lits.specs.declared.value.Value.TheVariants.{True, False, Unset
 use Rattle.plain_lits.specs.Literals.{negation}
 use Rattle.plain_lits.specs.Values.{IsValueIn}
 use Rattle.plain_lits.specs.HintCheck.{clause_at, IsNamed, IsFalsified}
+use Rattle.plain_lits.specs.Trails.{VarsDiffer}
+use Rattle.plain_lits.proofs.OneOutcome.{cases_lit}
+use Rattle.hinted_log.specs.Logs.{Step, IsLog, IsProof, IsStepOf, step_at, valuation_of}
+use Rattle.hinted_log.specs.declared.step_kind.StepKind.TheVariants.{Derived}
+use Rattle.hinted_log.proofs.Following.{all_follow}
+use Rattle.lists.proofs.TruthValues.{is_denied, not_itself}
 use Rattle.unit_propagate.specs.Search.{Search, IsSearch, IsQuiet, HasGrown, Decides, GoesBack}
 use Rattle.clause_watches.proofs.Fronts.{consistent}
 use Rattle.sat_core.specs.Runs.{HasValue, HaveValues, IsUnsetIn}
 use Rattle.sat_core.specs.Runs.{IsUnsetVar, GoesOn, IsRun, HasRoom}
 use Rattle.sat_core.specs.Solving.{SolverState, clause_of, IsModel}
 use Rattle.sat_core.specs.Mirrors.{IsMirror}
+use Rattle.sat_core.specs.Sleeping.{IsHeld}
+use Rattle.sat_core.specs.declared.sleepers.Sleeper.{Sleeper}
 use Rattle.sat_core.proofs.Running.{grown, decided, back}
 use Rattle.sat_core.proofs.Mirroring.{id_of}
+use Rattle.sat_core.proofs.Holding.{active_step}
 use Rattle.conflict_learn.proofs.Literally.{stands_contains}
 
 -- a value that isn't Unset is the value of a variable
@@ -84,26 +93,107 @@ quiet_true s id room quiet values named =
     (λ w. w)
     (some_true s.lits (clause_at s.clauses id) (quiet_total s id room values named))
 
-pub model_of : (state : SolverState) (front : List Lit) (s : Search) (assumptions : List Lit)
-    → IsMirror s.clauses state.active state.log.steps
+-- a literal is true or not
+decide : (lits : List Lit) (l : Lit) → Contains lits l ⊎ (Contains lits l → ⊥)
+decide [] l = inr (λ c. Contains-nil l c)
+decide (x ∷ xs) l = ⊎_elim
+    (λ (e : x ≡ l). inl (Contains-head x xs l e))
+    (λ ne. ⊎_elim (λ c. inl (Contains-tail x xs l c))
+    (λ none. inr (λ c. ⊎_elim (λ e. ne e) (λ t. none t) (Contains-cons_cases x xs l c)))
+    (decide xs l))
+    (cases_lit x l)
+
+said : {P : Type 0} → P ⊎ (P → ⊥) → Bool
+said (inl p) = true
+said (inr n) = false
+
+said_true : {P : Type 0} (d : P ⊎ (P → ⊥)) → said d ≡ true → P
+unfolding said
+said_true (inl p) e = p
+said_true (inr n) e = let bad : true ≡ false = sym e in absurd (not_itself true bad)
+
+said_of : {P : Type 0} (d : P ⊎ (P → ⊥)) → P → said d ≡ true
+unfolding said
+said_of (inl p) q = refl
+said_of (inr n) q = absurd (n q)
+
+said_false : {P : Type 0} (d : P ⊎ (P → ⊥)) → (P → ⊥) → said d ≡ false
+unfolding said
+said_false (inl p) n = absurd (n p)
+said_false (inr m) n = refl
+
+-- the true literals as a reading of the variables
+abbrev truth_of : List Lit → ℕ → Bool
+truth_of lits v = said (decide lits (record { var = v; positive = true }))
+
+reads_true : (lits : List Lit) (v : ℕ) (positive : Bool) → VarsDiffer lits
+    → Contains lits (record { var = v; positive = positive })
+    → valuation_of (truth_of lits) (record { var = v; positive = positive }) ≡ true
+reads_true lits v true apart c = said_of (decide lits (record { var = v; positive = true })) c
+reads_true lits v false apart c =
+    ap not (said_false (decide lits (record { var = v; positive = true }))
+    (λ bad. consistent lits (record { var = v; positive = true }) apart bad c))
+
+true_of_read : (lits : List Lit) (v : ℕ) (positive : Bool) → HasValue lits v
+    → valuation_of (truth_of lits) (record { var = v; positive = positive }) ≡ true
+    → Contains lits (record { var = v; positive = positive })
+true_of_read lits v true h e = said_true (decide lits (record { var = v; positive = true })) e
+true_of_read lits v false h e = ⊎_elim (λ no_. no_)
+    (λ yes_.
+    let t = said_of (decide lits (record { var = v; positive = true })) yes_ in
+    let f = is_denied (said (decide lits (record { var = v; positive = true }))) e in
+    let bad : true ≡ false = sym t ∙ f in
+    absurd (not_itself true bad))
+    h
+
+-- where nothing is left to do and all variables have values, each step in use is true
+awake_true : (steps : List Step) (awake : List ℕ) (s : Search) (number : ℕ) → IsMirror s.clauses awake steps → HasRoom s
+    → IsQuiet s.clauses s.lits → HaveValues s → Contains awake number
+    → (l : Lit) × Contains (clause_of steps number) l × Contains s.lits l
+awake_true steps awake s number m room quiet values c =
+    let id = id_of s.clauses awake steps number m c in
+    let w = quiet_true s id.0 room quiet values id.1 in (
+      w.0,
+      subst (λ n. Contains (clause_of steps n) w.0) id.2
+          (subst (λ xs. Contains xs w.0) (sym (m.same id.0 id.1)) w.1),
+      w.2,
+    )
+
+given_awake : (s : Search) (awake : List ℕ) (asleep : List Sleeper) (active : List ℕ) (steps : List Step) (number : ℕ)
+    → IsHeld s awake asleep active steps → IsStepOf steps number → (step_at steps number).kind ≢ Derived
+    → Contains awake number
+given_awake s awake asleep active steps number h step ne = ⊎_elim
+    (λ there. there)
+    (λ w. absurd (ne (ap (λ n. (step_at steps n).kind) (sym w.same) ∙ (h.shared.sleepers w.sleeper w.there).derived)))
+    (h.shared.covered number (h.given number step ne))
+
+each_true : (s : Search) (awake : List ℕ) (asleep : List Sleeper) (active : List ℕ) (steps : List Step)
+    → IsHeld s awake asleep active steps → IsProof steps → HasRoom s
+    → IsSearch s → IsQuiet s.clauses s.lits → HaveValues s → (number : ℕ) → IsStepOf steps number
+    → (l : Lit) × Contains (clause_of steps number) l × Contains s.lits l
+each_true s awake asleep active steps h proof room form quiet values number step =
+    let w = (all_follow steps proof).from_given (truth_of s.lits) (λ given is ne.
+    let a = awake_true steps awake s given h.shared.mirror room quiet values
+    (given_awake s awake asleep active steps given h is ne) in
+    (a.0, a.1, reads_true s.lits a.0.var a.0.positive form.apart a.2)) number step in (
+      w.0,
+      w.1,
+      true_of_read s.lits w.0.var w.0.positive
+          (values.each w.0.var (omega arith) (h.known number w.0 step w.1)) w.2,
+    )
+
+pub model_of : (state : SolverState) (awake : List ℕ) (asleep : List Sleeper) (front : List Lit) (s : Search)
+    (assumptions : List Lit)
+    → IsHeld s awake asleep state.active state.log.steps → IsLog state.log
     → IsSearch s → IsRun front assumptions s → IsQuiet s.clauses s.lits → HaveValues s
     → IsModel state assumptions s.lits
-model_of state front s assumptions m form run quiet values = record {
+model_of state awake asleep front s assumptions h log form run quiet values = record {
   plain = λ t. consistent s.lits t.0 form.apart t.1 t.2;
   assumed = λ l c. let w = run.there l c in stands_contains s.lits w.index l w.stands;
-  satisfied = λ number c.
-      let id = id_of s.clauses state.active state.log.steps number m c in
-      let w = quiet_true s id.0 run.fronted.room quiet values id.1 in (
-        w.0,
-        subst (λ n. Contains (clause_of state.log.steps n) w.0) id.2
-            (subst (λ xs. Contains xs w.0) (sym (m.same id.0 id.1)) w.1),
-        w.2,
-      );
-  total = λ number c l there.
-      let id = id_of s.clauses state.active state.log.steps number m c in
-      quiet_total s id.0 run.fronted.room values id.1 l
-      (subst (λ xs. Contains xs l) (m.same id.0 id.1)
-      (subst (λ n. Contains (clause_of state.log.steps n) l) (sym id.2) there));
+  satisfied = λ number c. each_true s awake asleep state.active state.log.steps h log.proof run.fronted.room form quiet
+      values number (active_step s.clauses awake asleep state.active state.log.steps number h.shared c);
+  total = λ number c l there. value_of s.lits l.var l.positive (values.each l.var (omega arith)
+      (h.known number l (active_step s.clauses awake asleep state.active state.log.steps number h.shared c) there));
 }
 
 -- a search goes on

@@ -1,7 +1,7 @@
 -- The first level, which has the front: it stays as it is while levels above it come and go.
 use Rattle.std.proofs.Common.{◌≡◌, ◌≢◌, ℕ, ◌<◌, ◌≤◌, ◌+◌, List, [], ◌∷◌, ◌++◌, length, get_or, take}
 use Rattle.std.proofs.Common.{arith, ap, sym, subst, ◌∙◌, refl, ⊎_elim, length-append, length-take}
-use Rattle.std.specs.Prelude.{Contains, Result, Ok, Err, OnErr}
+use Rattle.std.specs.Prelude.{Contains, Result, Ok, Err, OnErr, OnOk}
 use Rattle.std.proofs.Math.Seq.{get_or-append_seam}
 use Rattle.std.proofs.lemmas.List.{append-nil, get_or_default, get_or_past, get_or_append_left, get_or-take}
 use Rattle.std.proofs.lemmas.List.{get_or-set_other}
@@ -28,6 +28,11 @@ not_false lits l Unset h ne c = h.1 c
 pub on_err : {T E : Type 0} (result : Result T E) (P : Type 0) → P → OnErr result P
 on_err (Ok x) P p = tt
 on_err (Err e) P p = p
+
+-- and the same of a call that succeeds
+pub on_ok : {T E : Type 0} (result : Result T E) (P : Type 0) → P → OnOk result P
+on_ok (Ok x) P p = p
+on_ok (Err e) P p = tt
 
 -- where the first level ends: at the second one's begin, or it has all
 end_of : (s : Search) → 1 < length s.starts → front_end s ≡ get_or s.starts 1 0

@@ -1,5 +1,6 @@
 -- The log and the steps in use are the same from the front on.
-use Rattle.std.proofs.Common.{◌≡◌, ℕ, ◌+◌, ◌<◌, ◌≤◌, ◌-◌, List, [], ◌∷◌, ◌++◌, length, take, get_or, ap, sym, ◌∙◌, refl, subst, arith}
+use Rattle.std.proofs.Common.{◌≡◌, ℕ, ◌+◌, ◌<◌, ◌≤◌, ◌-◌, List, [], ◌∷◌, ◌++◌, length, take, get_or, ap, sym}
+use Rattle.std.proofs.Common.{◌∙◌, refl, subst, arith}
 use Rattle.std.proofs.Common.{inl, inr, ⊎_elim, Ok, length-append}
 use Rattle.std.specs.Prelude.{◌⊎◌, Contains}
 use Rattle.std.proofs.Math.Seq.{take-append_seam}
@@ -10,7 +11,8 @@ use Rattle.plain_lits.specs.declared.lit.Lit.{Lit}
 use Rattle.plain_lits.specs.Literals.{negation}
 use Rattle.plain_lits.specs.HintCheck.{Checks}
 use Rattle.hinted_log.specs.Logs.{Step, LogState, clauses_of, derived_step, log_of, no_step}
-use Rattle.sat_core.specs.Solving.{SolverState, Keeps, Derives, IsShown, IsShownAt, front, clause_of, with_unit, with_derived}
+use Rattle.sat_core.specs.Solving.{SolverState, Keeps, Derives, IsShown, IsShownAt, front, clause_of, with_unit}
+use Rattle.sat_core.specs.Solving.{with_derived}
 use Rattle.sat_core.specs.Mirrors.{IsDerived}
 use Rattle.sat_core.proofs.Searching.{Recorded}
 
@@ -122,6 +124,10 @@ derives_logs old new log active = record {
       let long : length new.log.steps ≡ length old.log.steps = ap (λ (g : LogState). length g.steps) log in
       absurd (omega arith);
 }
+
+pub derives_same : (old new : SolverState) → new ≡ old → Derives old new
+derives_same old new e =
+    derives_logs old new (ap (λ (s : SolverState). s.log) e) (ap (λ (s : SolverState). s.active) e)
 
 pub derives_trans : (a b c : SolverState) → Derives a b → Derives b c → Derives a c
 derives_trans a b c h k = record {

@@ -1,7 +1,9 @@
 pub mod Descending
 pub mod Fronting
+pub mod Holding
 pub mod Keeping
 pub mod Mirroring
+pub mod Resolving
 pub mod Running
 pub mod Searching
 pub mod Serving

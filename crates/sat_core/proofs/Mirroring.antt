@@ -17,7 +17,9 @@ use Rattle.hinted_log.specs.Logs.{Step, LogState, IsStepOf, AddsStep, AddsDerive
 use Rattle.hinted_log.specs.Logs.{derived_step}
 use Rattle.hinted_log.proofs.Following.{clause_of_step, length-clauses_of}
 use Rattle.conflict_learn.specs.Learning.{AreUsed, ComesFromHints, IsLearned, IsNew}
-use Rattle.sat_core.specs.Solving.{SolverState, clause_of, IsShown, IsUnitOf, with_derived}
+use Rattle.sat_core.specs.Solving.{SolverState, clause_of, Holds, IsShown, IsUnitOf, with_derived}
+use Rattle.sat_core.specs.Sleeping.{AreShared, HasNoSubsumingSleeper}
+use Rattle.sat_core.specs.declared.sleepers.Sleeper.{Sleeper}
 use Rattle.sat_core.specs.Mirrors.{step_of, IsMirror, IsDerived}
 use Rattle.sat_core.proofs.Running.{clause_cases}
 use Rattle.lists.proofs.Images.{image_there, image_from}
@@ -110,20 +112,22 @@ derived_all old new clause hints number w a =
     derived_with old new clause hints a.used number same a.added
 
 -- what is learned beside the clauses is learned beside the steps
-pub shown_of : (s : SolverState) (clauses : List (List Lit)) (clause : List Lit) (hints : List ℕ)
-    → IsMirror clauses s.active s.log.steps → Checks negation clauses clause hints (Ok (length hints))
+pub shown_of : (s : SolverState) (clauses : List (List Lit)) (awake : List ℕ) (asleep : List Sleeper)
+    (clause : List Lit) (hints : List ℕ)
+    → AreShared clauses awake asleep s.active s.log.steps → Checks negation clauses clause hints (Ok (length hints))
     → AreUsed clauses clause hints → ComesFromHints clauses clause hints
-    → IsShown s clause (map (step_of s.active) hints)
-shown_of s clauses clause hints m w used from =
-    let to = step_of s.active in
+    → IsShown s clause (map (step_of awake) hints)
+shown_of s clauses awake asleep clause hints share w used from =
+    let m = share.mirror in
+    let to = step_of awake in
     let steps = s.log.steps in
     let named : (h : ℕ) → Contains hints h → IsNamed clauses h = λ h c. hints_named clauses clause hints h w c in
     record {
       taken = subst (λ n. Checks negation (clauses_of steps) clause (map to hints) (Ok n))
-          (sym (length-map hints to)) (moved clauses s.active steps clause hints m w);
+          (sym (length-map hints to)) (moved clauses awake steps clause hints m w);
       in_use = λ hint c.
           let h = image_from to hints hint c in
-          subst (Contains s.active) h.2 (active_of clauses s.active steps h.0 m (named h.0 h.1));
+          share.awake_of hint (subst (Contains awake) h.2 (active_of clauses awake steps h.0 m (named h.0 h.1)));
       used = λ hint l c there.
           let h = image_from to hints hint c in
           let at : Contains (clause_at clauses h.0) l = subst (λ xs. Contains xs l) (m.same h.0 (named h.0 h.1))
@@ -143,32 +147,47 @@ shown_of s clauses clause hints m w used from =
           );
     }
 
-pub unit_of : (s : SolverState) (clauses : List (List Lit)) (lits assumptions clause : List Lit) (hints : List ℕ)
-    → IsMirror clauses s.active s.log.steps → IsLearned clauses lits clause hints → IsNew clauses clause
+-- a clause that is new to the clauses and holds that of no sleeper is new to the steps in use
+holds_none_of : (s : SolverState) (clauses : List (List Lit)) (awake : List ℕ) (asleep : List Sleeper)
+    (clause : List Lit)
+    → AreShared clauses awake asleep s.active s.log.steps → IsNew clauses clause
+    → HasNoSubsumingSleeper s.log.steps asleep clause
+    → (number : ℕ) → Contains s.active number → Holds clause (clause_of s.log.steps number) → ⊥
+holds_none_of s clauses awake asleep clause share new none number c h =
+    let m = share.mirror in
+    ⊎_elim
+    (λ (there : Contains awake number).
+    let id = id_of clauses awake s.log.steps number m there in
+    new.holds_none id.0 id.1 (λ l there. h.each l
+    (subst (λ n. Contains (clause_of s.log.steps n) l) id.2
+    (subst (λ xs. Contains xs l) (sym (m.same id.0 id.1)) there))))
+    (λ w. none w.sleeper w.there (subst (λ n. Holds clause (clause_of s.log.steps n)) (sym w.same) h))
+    (share.covered number c)
+
+pub unit_of : (s : SolverState) (clauses : List (List Lit)) (awake : List ℕ) (asleep : List Sleeper)
+    (lits assumptions clause : List Lit) (hints : List ℕ)
+    → AreShared clauses awake asleep s.active s.log.steps → IsLearned clauses lits clause hints → IsNew clauses clause
+    → HasNoSubsumingSleeper s.log.steps asleep clause
     → ((l : Lit) → Contains clause l → Contains assumptions l → ⊥)
-    → IsUnitOf s assumptions clause (map (step_of s.active) hints)
-unit_of s clauses lits assumptions clause hints m learned new unassumed = record {
-  shown = shown_of s clauses clause hints m learned.taken learned.used learned.from_hints;
+    → IsUnitOf s assumptions clause (map (step_of awake) hints)
+unit_of s clauses awake asleep lits assumptions clause hints share learned new none unassumed = record {
+  shown = shown_of s clauses awake asleep clause hints share learned.taken learned.used learned.from_hints;
   fresh = record {
     plain = new.plain;
-    holds_none = λ number c h.
-        let id = id_of clauses s.active s.log.steps number m c in
-        new.holds_none id.0 id.1 (λ l there. h.each l
-        (subst (λ n. Contains (clause_of s.log.steps n) l) id.2
-        (subst (λ xs. Contains xs l) (sym (m.same id.0 id.1)) there)));
+    holds_none = holds_none_of s clauses awake asleep clause share new none;
   };
   unassumed = unassumed;
 }
 
 -- more steps than those in use
-clause_kept : (steps : List Step) (step : Step) (number : ℕ) → IsStepOf steps number
+pub clause_kept : (steps : List Step) (step : Step) (number : ℕ) → IsStepOf steps number
     → clause_of (steps ++ step ∷ []) number ≡ clause_of steps number
 clause_kept steps step number s =
     let from = s.from_one in
     let within = s.within in
     ap (λ (x : Step). x.clause) (get_or_append_left steps (step ∷ []) no_step (number - 1) (omega arith))
 
-step_kept : (steps : List Step) (step : Step) (number : ℕ) → IsStepOf steps number
+pub step_kept : (steps : List Step) (step : Step) (number : ℕ) → IsStepOf steps number
     → IsStepOf (steps ++ step ∷ []) number
 step_kept steps step number s =
     let within = s.within in
@@ -178,7 +197,6 @@ pub mirror_grown : (clauses : List (List Lit)) (active : List ℕ) (steps : List
     → IsMirror clauses active steps → IsMirror clauses active (steps ++ step ∷ [])
 mirror_grown clauses active steps step m = record {
   long = m.long;
-  rises = m.rises;
   named = λ id n. step_kept steps step (step_of active id) (m.named id n);
   same = λ id n. clause_kept steps step (step_of active id) (m.named id n) ∙ m.same id n;
 }
@@ -198,7 +216,7 @@ step_new steps step number e = record {
   within = omega (arith, length-append steps (step ∷ []));
 }
 
-rises_pushed : (xs : List ℕ) (x : ℕ) → IsStrictlyIncreasing xs → ((k : ℕ) → k < length xs → get_or xs k 0 < x)
+pub rises_pushed : (xs : List ℕ) (x : ℕ) → IsStrictlyIncreasing xs → ((k : ℕ) → k < length xs → get_or xs k 0 < x)
     → IsStrictlyIncreasing (xs ++ x ∷ [])
 rises_pushed xs x rise below k lt =
     let long = length-append xs (x ∷ []) in
@@ -217,12 +235,11 @@ rises_pushed xs x rise below k lt =
     omega (arith, a, b, low))
     (cases_lt (k + 1) (length xs))
 
--- a step comes with its clause
-pub mirror_more : (clauses : List (List Lit)) (active : List ℕ) (steps : List Step) (step : Step)
-    → IsMirror clauses active steps
-    → IsMirror (clauses ++ step.clause ∷ []) (active ++ (length steps + 1) ∷ []) (steps ++ step ∷ [])
-mirror_more clauses active steps step m =
-    let number = length steps + 1 in
+-- a step of the log comes with its clause
+pub mirror_pushed : (clauses : List (List Lit)) (active : List ℕ) (steps : List Step) (clause : List Lit) (number : ℕ)
+    → IsMirror clauses active steps → IsStepOf steps number → clause_of steps number ≡ clause
+    → IsMirror (clauses ++ clause ∷ []) (active ++ number ∷ []) steps
+mirror_pushed clauses active steps clause number m step is =
     let long = m.long in
     let old_at : (id : ℕ) → IsNamed clauses id → step_of (active ++ number ∷ []) id ≡ step_of active id = λ id n.
     let from = n.from_one in let within = n.within in
@@ -231,26 +248,25 @@ mirror_more clauses active steps step m =
     let i : id - 1 ≡ length active = omega arith in
     ap (λ k. get_or (active ++ number ∷ []) k 0) i ∙ get_or-append_seam active number [] 0 in
     record {
-      long = omega (arith, length-append active (number ∷ []), length-append clauses (step.clause ∷ []), long);
-      rises = rises_pushed active number m.rises (λ k lt.
-          let named : IsNamed clauses (k + 1) = record { from_one = omega arith; within = omega (arith, long, lt) } in
-          let s = m.named (k + 1) named in
-          let within = s.within in
-          let same : k + 1 - 1 ≡ k = omega arith in
-          let e : step_of active (k + 1) ≡ get_or active k 0 = ap (λ i. get_or active i 0) same in
-          omega (arith, within, e));
+      long = omega (arith, length-append active (number ∷ []), length-append clauses (clause ∷ []), long);
       named = λ id n. ⊎_elim
-          (λ w. subst (IsStepOf (steps ++ step ∷ [])) (sym (old_at id w.0))
-          (step_kept steps step (step_of active id) (m.named id w.0)))
-          (λ w. subst (IsStepOf (steps ++ step ∷ [])) (sym (new_at id w.0)) (step_new steps step number refl))
-          (clause_cases clauses step.clause id n);
+          (λ w. subst (IsStepOf steps) (sym (old_at id w.0)) (m.named id w.0))
+          (λ w. subst (IsStepOf steps) (sym (new_at id w.0)) step)
+          (clause_cases clauses clause id n);
       same = λ id n. ⊎_elim
-          (λ w. ap (clause_of (steps ++ step ∷ [])) (old_at id w.0)
-          ∙ (clause_kept steps step (step_of active id) (m.named id w.0) ∙ (m.same id w.0 ∙ sym w.1)))
-          (λ w. ap (clause_of (steps ++ step ∷ [])) (new_at id w.0)
-          ∙ (clause_new steps step number refl ∙ sym w.1))
-          (clause_cases clauses step.clause id n);
+          (λ w. ap (clause_of steps) (old_at id w.0) ∙ (m.same id w.0 ∙ sym w.1))
+          (λ w. ap (clause_of steps) (new_at id w.0) ∙ (is ∙ sym w.1))
+          (clause_cases clauses clause id n);
     }
+
+-- a step comes with its clause
+pub mirror_more : (clauses : List (List Lit)) (active : List ℕ) (steps : List Step) (step : Step)
+    → IsMirror clauses active steps
+    → IsMirror (clauses ++ step.clause ∷ []) (active ++ (length steps + 1) ∷ []) (steps ++ step ∷ [])
+mirror_more clauses active steps step m =
+    mirror_pushed clauses active (steps ++ step ∷ []) step.clause (length steps + 1)
+    (mirror_grown clauses active steps step m)
+    (step_new steps step (length steps + 1) refl) (clause_new steps step (length steps + 1) refl)
 
 pub derived_is : (old new : LogState) (clause : List Lit) (hints : List ℕ) (number : ℕ)
     → Checks negation (clauses_of old.steps) clause hints (Ok (length hints)) → AddsDerived old new clause hints number

@@ -77,7 +77,7 @@ clause_cases clauses clause id named =
     ⊎_elim (λ old. inl (old, clause_before clauses clause id old))
     (λ e. inr (e, clause_last clauses clause id e)) (named_before clauses clause id named)
 
-room_more : (old new : Search) (clause : List Lit) → new.clauses ≡ old.clauses ++ clause ∷ [] → old.vars ≤ new.vars
+pub room_more : (old new : Search) (clause : List Lit) → new.clauses ≡ old.clauses ++ clause ∷ [] → old.vars ≤ new.vars
     → ((l : Lit) → Contains clause l → l.var < new.vars) → HasRoom old → HasRoom new
 room_more old new clause e vars known room = record {
   known = λ id l named c.
@@ -500,12 +500,16 @@ back_none front old new f g = g.lits ∙ ap (λ i. take i old.lits) f.base
 back_room : (front : List Lit) (old new : Search) → IsFronted front old → GoesBack old new 0 → HasRoom new
 back_room front old new f g = room_same old new g.clauses (let e = g.vars in omega (arith, e)) f.room
 
+-- nothing is true then
+pub resting_none : (front : List Lit) (old new : Search) → IsFronted front old → GoesBack old new 0 → IsResting [] new
+resting_none front old new f g = record {
+  fronted = fronted_none new (back_none front old new f g) g.starts (back_room front old new f g);
+  few = let e = ap length g.starts in omega (arith, e);
+}
+
 pub given_up : (front : List Lit) (old mid new : Search) → IsFronted front old → GoesBack old mid 0 → IsSearch mid
     → StaysSearch mid new → IsResting [] new
-given_up front old mid new f g form stays = resting_stays [] mid new form stays (record {
-  fronted = fronted_none mid (back_none front old mid f g) g.starts (back_room front old mid f g);
-  few = let e = ap length g.starts in omega (arith, e);
-})
+given_up front old mid new f g form stays = resting_stays [] mid new form stays (resting_none front old mid f g)
 
 pub front_begins : (front : List Lit) (old mid new : Search) (block : List Lit) → IsFronted front old
     → GoesBack old mid 0 → GainsBlock mid new block
@@ -513,3 +517,12 @@ pub front_begins : (front : List Lit) (old mid new : Search) (block : List Lit) 
 front_begins front old mid new block f g gains =
     fronted_new mid new block (back_none front old mid f g) g.starts
     (room_same mid new gains.clauses gains.vars (back_room front old mid f g)) gains
+
+-- assumptions that are true don't stand beside their negations
+pub plain_assumptions : (front : List Lit) (s : Search) (assumptions : List Lit) → IsSearch s
+    → IsRun front assumptions s → (l : Lit) → Contains assumptions l → Contains assumptions (negation l) → ⊥
+plain_assumptions front s assumptions form run l c against =
+    let a = run.there l c in
+    let b = run.there (negation l) against in
+    consistent s.lits l form.apart (stands_contains s.lits a.index l a.stands)
+    (stands_contains s.lits b.index (negation l) b.stands)

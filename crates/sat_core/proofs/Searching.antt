@@ -9,7 +9,7 @@ use Rattle.plain_lits.specs.Literals.{negation}
 use Rattle.plain_lits.specs.declared.halt.Halt.{Halt}
 use Rattle.plain_lits.specs.declared.halt.Halt.TheVariants.{Spent, LogFull, Memory}
 use Rattle.plain_lits.specs.Units.{Units}
-use Rattle.hinted_log.specs.Logs.{Step, LogState, IsLog, IsStepOf, derived_step}
+use Rattle.hinted_log.specs.Logs.{Step, LogState, derived_step}
 use Rattle.sat_core.specs.declared.answer.Added.{Added}
 use Rattle.sat_core.specs.declared.answer.Added.TheVariants.{Axiom, Side, Derived}
 use Rattle.sat_core.specs.declared.answer.Solved.{Solved}
@@ -18,10 +18,8 @@ use Rattle.sat_core.specs.declared.cdcl.Cdcl.{Cdcl}
 use Rattle.sat_core.specs.declared.cdcl.End.{End}
 use Rattle.sat_core.specs.declared.cdcl.End.TheVariants.{Satisfied, Refuted, Stopped}
 use Rattle.sat_core.specs.Solving.{SolverState, Learns, one_more, IsModel}
-use Rattle.sat_core.specs.Solving.{HasSearched, IsSolver, begun, Records}
-use Rattle.sat_core.specs.Mirrors.{IsMirror}
+use Rattle.sat_core.specs.Solving.{HasSearched, begun, Records}
 use Rattle.sat_core.specs.Turns.{state_of, LearnsOne, EndsAt, StopsAt, HasRun, Tells}
-use Rattle.sat_core.proofs.Mirroring.{mirror_more, id_of}
 use Rattle.lists.proofs.TruthValues.{not_itself}
 
 -- one clause more is learned
@@ -41,11 +39,6 @@ pub stops_of : (learned : SolverState) (new : Cdcl) (assumptions : List Lit) (un
 stops_of learned new assumptions units LogFull full unspent = (refl, full refl)
 stops_of learned new assumptions units (Spent count) full unspent = absurd (unspent count refl)
 stops_of learned new assumptions units Memory full unspent = tt
-
--- clauses that are the same are mirrored
-pub mirror_same : (clauses new_clauses : List (List Lit)) (active : List ℕ) (steps : List Step)
-    → new_clauses ≡ clauses → IsMirror clauses active steps → IsMirror new_clauses active steps
-mirror_same clauses new_clauses active steps e m = subst (λ cs. IsMirror cs active steps) (sym e) m
 
 -- turns from an equal state
 pub run_from : (old mid : SolverState) (new : Cdcl) (assumptions : List Lit) (before after : Units) (ended : End)
@@ -113,38 +106,6 @@ recorded_of old new clause (Derived hints) number r = record {
   steps = ap (λ (g : LogState). g.steps) r.added.new_log;
   next = r.added.next;
   limit = ap (λ (g : LogState). g.limit) r.added.new_log;
-}
-
-pub mirror_recorded : (clauses new_clauses : List (List Lit)) (active new_active : List ℕ) (log new_log : LogState)
-    (clause : List Lit) (number : ℕ) → Recorded log new_log clause number → new_clauses ≡ clauses ++ clause ∷ []
-    → new_active ≡ active ++ number ∷ [] → IsMirror clauses active log.steps
-    → IsMirror new_clauses new_active new_log.steps
-mirror_recorded clauses new_clauses active new_active log new_log clause number r e1 e2 m =
-    let cs : new_clauses ≡ clauses ++ r.step.clause ∷ [] = e1 ∙ ap (λ x. clauses ++ x ∷ []) (sym r.is) in
-    let ns : new_active ≡ active ++ (length log.steps + 1) ∷ [] = e2 ∙ ap (λ n. active ++ n ∷ []) r.next in
-    subst (λ xs. IsMirror xs new_active new_log.steps) (sym cs)
-    (subst (λ xs. IsMirror (clauses ++ r.step.clause ∷ []) xs new_log.steps) (sym ns)
-    (subst (λ xs. IsMirror (clauses ++ r.step.clause ∷ []) (active ++ (length log.steps + 1) ∷ []) xs)
-    (sym r.steps)
-    (mirror_more clauses active log.steps r.step m)))
-
-pub mirror_as : (clauses new_clauses : List (List Lit)) (active new_active : List ℕ) (log new_log : LogState)
-    → new_clauses ≡ clauses → new_active ≡ active → new_log ≡ log → IsMirror clauses active log.steps
-    → IsMirror new_clauses new_active new_log.steps
-mirror_as clauses new_clauses active new_active log new_log e1 e2 e3 m =
-    subst (λ xs. IsMirror xs new_active new_log.steps) (sym e1)
-    (subst (λ xs. IsMirror clauses xs new_log.steps) (sym e2)
-    (subst (λ (g : LogState). IsMirror clauses active g.steps) (sym e3) m))
-
--- what callers see of it
-pub solver_form : (s : SolverState) (clauses : List (List Lit)) → IsLog s.log → IsMirror clauses s.active s.log.steps
-    → IsSolver s
-solver_form s clauses form m = record {
-  log_form = form;
-  rises = m.rises;
-  named = λ number c.
-      let id = id_of clauses s.active s.log.steps number m c in
-      subst (IsStepOf s.log.steps) id.2 (m.named id.0 id.1);
 }
 
 -- one assumption, or none, doesn't stand beside its negation

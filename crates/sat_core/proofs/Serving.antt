@@ -1,7 +1,8 @@
 -- The look for a step that serves.
 use Rattle.std.proofs.Common.{◌≡◌, ◌≢◌, ℕ, ◌<◌, ◌≤◌, ◌+◌, List, [], ◌∷◌, ◌++◌, length, get_or, take, map}
 use Rattle.std.proofs.Common.{false, arith, ap, sym, subst, ◌∙◌, refl, ⊎_elim}
-use Rattle.std.specs.Prelude.{Contains}
+use Rattle.std.specs.Prelude.{Contains, ◌⊎◌, Option, Some, None, IfSome}
+use Rattle.sat_core.specs.declared.sleepers.Sleeper.{Sleeper}
 use Rattle.std.proofs.lemmas.List.{get_or_default, take_more, map-append}
 use Rattle.std.proofs.lemmas.List.Elements.{Contains-push_cases, Contains-append_left}
 use Rattle.std.proofs.lemmas.Bool.{cases_lt}
@@ -120,3 +121,32 @@ none_more steps clause lits part index step d before e part_is w n pos le h =
     (subst (λ xs. Contains xs w.0) part_is w.1) in
     w.2 (d.there w.0 (h.each w.0 there)))
     (cases_lt n (index + 1))
+
+-- the literals of a clause, one after the other
+pub lits_more : (clause lits new : List Lit) (i : ℕ) (l d : Lit) → i < length clause → lits ≡ take i clause
+    → new ≡ lits ++ l ∷ [] → l ≡ get_or clause i d → new ≡ take (i + 1) clause
+lits_more clause lits new i l d lt e e2 e3 =
+    e2 ∙ (ap (λ xs. xs ++ l ∷ []) e
+    ∙ (ap (λ x. take i clause ++ x ∷ []) e3 ∙ sym (take_more clause i d lt)))
+
+-- of two literals one is taken
+pub rarer_kept : (clause : List Lit) (found result : Option Lit) (packed : Lit) → IfSome found (Contains clause)
+    → Contains clause packed → IfSome result (λ l. (l ≡ packed) ⊎ (found ≡ Some l)) → IfSome result (Contains clause)
+rarer_kept clause found None packed h c r = tt
+rarer_kept clause found (Some l) packed h c r =
+    ⊎_elim (λ e. subst (Contains clause) (sym e) c) (λ e. subst (λ o. IfSome o (Contains clause)) e h) r
+
+-- none of the sleepers up to an index serves
+pub sleepers_more : (steps : List Step) (asleep : List Sleeper) (clause lits : List Lit) (i : ℕ) (x : Sleeper)
+    → FalsifiesAll clause lits → i < length asleep → ((d : Sleeper) → get_or asleep i d ≡ x)
+    → ((y : Sleeper) → Contains (take i asleep) y → Holds clause (clause_of steps y.step) → ⊥)
+    → (l : Lit) × Contains (clause_of steps x.step) l × (Contains lits (negation l) → ⊥)
+    → (y : Sleeper) → Contains (take (i + 1) asleep) y → Holds clause (clause_of steps y.step) → ⊥
+sleepers_more steps asleep clause lits i x d lt at before w y c h =
+    ⊎_elim (λ old. before y old h)
+    (λ (same : get_or asleep i x ≡ y).
+    let e : x ≡ y = sym (at x) ∙ same in
+    not_served steps clause lits x.step d w
+    (subst (λ (z : Sleeper). Holds clause (clause_of steps z.step)) (sym e) h))
+    (Contains-push_cases (take i asleep) (get_or asleep i x) y
+    (subst (λ xs. Contains xs y) (take_more asleep i x lt) c))

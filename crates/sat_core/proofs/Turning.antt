@@ -12,10 +12,12 @@ use Rattle.sat_core.specs.Solving.{SolverState, clause_of, IsShown, IsUnitOf, En
 use Rattle.sat_core.specs.Solving.{with_unit}
 use Rattle.sat_core.specs.Mirrors.{IsMirror, step_of, AreIds, IsDerived, IsSubsuming, HasNoSubsuming}
 use Rattle.sat_core.specs.Runs.{IsRun}
+use Rattle.sat_core.specs.Sleeping.{AreShared, HasNoSubsumingSleeper}
+use Rattle.sat_core.specs.declared.sleepers.Sleeper.{Sleeper}
 use Rattle.sat_core.specs.Turns.{IsAsserting}
 use Rattle.sat_core.proofs.Running.{back, learned, back_lits, lits_below, core_lits, not_assumed}
 use Rattle.std.proofs.lemmas.List.{length-map}
-use Rattle.sat_core.proofs.Mirroring.{mirror_grown, mirror_more, hints_named, unit_of, shown_of, clause_new, step_new}
+use Rattle.sat_core.proofs.Mirroring.{hints_named, unit_of, shown_of, clause_new, step_new}
 use Rattle.sat_core.proofs.Mirroring.{moved}
 
 -- the level to which a search goes back lies below the last one
@@ -52,31 +54,6 @@ run_learned front old mid new level target clause lit id assumptions form mid_fo
     (a.least.each k (low k k_pos k_target)))
     (back front old mid target assumptions form pos lt g run)
 
--- the clauses and the steps, where a step has come but not its clause, and where both have
-pub mirror_derived : (clauses new_clauses : List (List Lit)) (active new_active : List ℕ) (log new_log : LogState)
-    (clause : List Lit) (hints : List ℕ) (number : ℕ) → new_clauses ≡ clauses → new_active ≡ active
-    → IsDerived log new_log clause hints number → IsMirror clauses active log.steps
-    → IsMirror new_clauses new_active new_log.steps
-mirror_derived clauses new_clauses active new_active log new_log clause hints number e e2 d m =
-    subst (λ cs. IsMirror cs new_active new_log.steps) (sym e)
-    (subst (λ xs. IsMirror clauses xs new_log.steps) (sym e2)
-    (subst (λ (g : LogState). IsMirror clauses active g.steps) (sym d.log_is)
-    (mirror_grown clauses active log.steps (derived_step clause hints) m)))
-
-pub mirror_learned : (clauses mid new_clauses : List (List Lit)) (active new_active : List ℕ) (log new_log : LogState)
-    (clause : List Lit) (hints : List ℕ) (number : ℕ) → mid ≡ clauses → new_clauses ≡ mid ++ clause ∷ []
-    → new_active ≡ active ++ number ∷ []
-    → IsDerived log new_log clause hints number → IsMirror clauses active log.steps
-    → IsMirror new_clauses new_active new_log.steps
-mirror_learned clauses mid new_clauses active new_active log new_log clause hints number e0 e1 e2 d m =
-    let cs : new_clauses ≡ clauses ++ clause ∷ [] = e1 ∙ ap (λ xs. xs ++ clause ∷ []) e0 in
-    let ns : new_active ≡ active ++ (length log.steps + 1) ∷ [] = e2 ∙ ap (λ n. active ++ n ∷ []) d.next in
-    subst (λ xs. IsMirror xs new_active new_log.steps) (sym cs)
-    (subst (λ xs. IsMirror (clauses ++ clause ∷ []) xs new_log.steps) (sym ns)
-    (subst (λ (g : LogState). IsMirror (clauses ++ clause ∷ []) (active ++ (length log.steps + 1) ∷ []) g.steps)
-    (sym d.log_is)
-    (mirror_more clauses active log.steps (derived_step clause hints) m)))
-
 pub state_learned : (s : SolverState) (log : LogState) (active : List ℕ) (clause : List Lit) (hints : List ℕ)
     (number : ℕ)
     → IsDerived s.log log clause hints number → active ≡ s.active ++ number ∷ []
@@ -108,14 +85,15 @@ pub known_of : (s : Search) (clause : List Lit) → IsSearch s → IsFalsified n
 known_of s clause form f l c = form.within (negation l) (f.each l c)
 
 -- what is learned is a unit of the solver
-pub unit_learned : (state : SolverState) (front : List Lit) (s : Search) (assumptions clause : List Lit)
-    (ids hints : List ℕ)
-    → IsMirror s.clauses state.active state.log.steps → IsSearch s → IsRun front assumptions s
-    → IsLearned s.clauses s.lits clause ids → IsNew s.clauses clause → hints ≡ map (step_of state.active) ids
+pub unit_learned : (state : SolverState) (awake : List ℕ) (asleep : List Sleeper) (front : List Lit) (s : Search)
+    (assumptions clause : List Lit) (ids hints : List ℕ)
+    → AreShared s.clauses awake asleep state.active state.log.steps → IsSearch s → IsRun front assumptions s
+    → IsLearned s.clauses s.lits clause ids → IsNew s.clauses clause
+    → HasNoSubsumingSleeper state.log.steps asleep clause → hints ≡ map (step_of awake) ids
     → IsUnitOf state assumptions clause hints
-unit_learned state front s assumptions clause ids hints m form run l new e =
+unit_learned state awake asleep front s assumptions clause ids hints share form run l new none e =
     subst (IsUnitOf state assumptions clause) (sym e)
-    (unit_of state s.clauses s.lits assumptions clause ids m l new
+    (unit_of state s.clauses awake asleep s.lits assumptions clause ids share l new none
     (λ x c a. not_assumed front s assumptions clause x form run l.all_false c a))
 
 -- a core, where a step serves and where it is one step more
@@ -138,20 +116,22 @@ core_served state front s assumptions clause number shallow run assumed subsumin
   closed = inl refl;
 }
 
-pub core_shown : (state : SolverState) (s : Search) (clause : List Lit) (ids hints : List ℕ)
-    → IsMirror s.clauses state.active state.log.steps → IsLearned s.clauses s.lits clause ids
-    → hints ≡ map (step_of state.active) ids → IsShown state clause hints
-core_shown state s clause ids hints m l e =
-    subst (IsShown state clause) (sym e) (shown_of state s.clauses clause ids m l.taken l.used l.from_hints)
+pub core_shown : (state : SolverState) (awake : List ℕ) (asleep : List Sleeper) (s : Search) (clause : List Lit)
+    (ids hints : List ℕ)
+    → AreShared s.clauses awake asleep state.active state.log.steps → IsLearned s.clauses s.lits clause ids
+    → hints ≡ map (step_of awake) ids → IsShown state clause hints
+core_shown state awake asleep s clause ids hints share l e =
+    subst (IsShown state clause) (sym e)
+    (shown_of state s.clauses awake asleep clause ids share l.taken l.used l.from_hints)
 
-pub core_derived : (state : SolverState) (log : LogState) (front : List Lit) (s : Search)
-    (assumptions clause : List Lit) (ids hints : List ℕ) (number : ℕ)
-    → IsMirror s.clauses state.active state.log.steps → length s.starts ≤ 2 → IsRun front assumptions s
+pub core_derived : (state : SolverState) (awake : List ℕ) (asleep : List Sleeper) (log : LogState) (front : List Lit)
+    (s : Search) (assumptions clause : List Lit) (ids hints : List ℕ) (number : ℕ)
+    → AreShared s.clauses awake asleep state.active state.log.steps → length s.starts ≤ 2 → IsRun front assumptions s
     → IsLearned s.clauses s.lits clause ids → ((x : Lit) → Contains clause x → IsAssumed s x)
-    → HasNoSubsuming state.log.steps clause → hints ≡ map (step_of state.active) ids
+    → HasNoSubsuming state.log.steps clause → hints ≡ map (step_of awake) ids
     → IsDerived state.log log clause hints number
     → EndsCore state (record { log = log; active = state.active; pending = state.pending }) assumptions number
-core_derived state log front s assumptions clause ids hints number m shallow run l assumed none e d =
+core_derived state awake asleep log front s assumptions clause ids hints number share shallow run l assumed none e d =
     let steps_are : log.steps ≡ state.log.steps ++ derived_step clause hints ∷ [] =
     ap (λ (g : LogState). g.steps) d.log_is in
     let clause_is : clause_of log.steps number ≡ clause = ap (λ xs. clause_of xs number) steps_are
@@ -166,7 +146,7 @@ core_derived state log front s assumptions clause ids hints number m shallow run
       closed = inr (record {
         clause = clause;
         hints = hints;
-        shown = core_shown state s clause ids hints m l e;
+        shown = core_shown state awake asleep s clause ids hints share l e;
         holds_none = none;
         next = d.next;
         log_is = d.log_is;

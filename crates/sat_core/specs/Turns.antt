@@ -11,27 +11,34 @@ use Rattle.sat_core.specs.declared.answer.Solved.TheVariants.{Model, Core}
 use Rattle.sat_core.specs.declared.cdcl.Cdcl.{Cdcl}
 use Rattle.sat_core.specs.declared.cdcl.End.{End}
 use Rattle.sat_core.specs.declared.cdcl.End.TheVariants.{Satisfied, Refuted, Stopped}
+use Rattle.sat_core.specs.declared.cdcl.Resolved.{Resolved}
+use Rattle.sat_core.specs.declared.cdcl.Resolved.TheVariants.{Learned, Woken, Ended}
 use Rattle.sat_core.specs.Solving.{SolverState, Learns, IsUnitOf, IsModel, EndsCore, StopsAs, with_unit}
-use Rattle.sat_core.specs.Mirrors.{IsMirror}
+use Rattle.sat_core.specs.Sleeping.{IsHeld}
 use Rattle.sat_core.specs.Runs.{IsRun, IsFronted, IsResting, IsReadyFor}
 
 -- what contracts see
 abbrev pub state_of : Cdcl → SolverState
 state_of c = record { log = c.logged.log; active = c.logged.active.items; pending = c.pending }
 
--- the propagator's clauses are the steps in use, and the first level has the front
+-- each step in use is the propagator's or asleep
+abbrev pub HoldsSteps : Cdcl → Type 0
+HoldsSteps c =
+    IsHeld c.decisions.search c.logged.awake.items c.logged.asleep.items c.logged.active.items c.logged.log.steps
+
+-- each step in use is the propagator's or asleep, and the first level has the front
 pub record IsKept (c : Cdcl) : Type 0 where
-  pub mirror : IsMirror c.decisions.search.clauses c.logged.active.items c.logged.log.steps
+  pub held : HoldsSteps c
   pub fronted : IsFronted c.front.items c.decisions.search
 
 -- the same between two calls, where there is no other level
 pub record IsAtRest (c : Cdcl) : Type 0 where
-  pub mirror : IsMirror c.decisions.search.clauses c.logged.active.items c.logged.log.steps
+  pub held : HoldsSteps c
   pub resting : IsResting c.front.items c.decisions.search
 
 -- the same where the first level is ready for assumptions
 pub record IsReady (assumptions : List Lit) (c : Cdcl) : Type 0 where
-  pub mirror : IsMirror c.decisions.search.clauses c.logged.active.items c.logged.log.steps
+  pub held : HoldsSteps c
   pub ready : IsReadyFor c.front.items assumptions c.decisions.search
 
 -- a solver searches under assumptions
@@ -75,6 +82,25 @@ pub record Goes (old : SolverState) (new : Cdcl) (assumptions : List Lit) (befor
   pub run : Runs assumptions new
   pub learns : LearnsOne old (state_of new) assumptions
 
+-- a search goes on: of so many steps that slept one is awake, and no unit is spent
+pub record Wakes (old : SolverState) (many : ℕ) (new : Cdcl) (assumptions : List Lit) (before after : Units)
+    : Type 0 where
+  pub unspent : after.used ≡ before.used
+  pub run : Runs assumptions new
+  pub state : state_of new ≡ old
+  pub fewer : length new.logged.asleep.items < many
+
+-- what comes of a conflict
+abbrev pub Resolves : SolverState → ℕ → Cdcl → List Lit → Units → Units → Resolved → Type 0
+Resolves old many new assumptions before after Learned = Goes old new assumptions before after
+Resolves old many new assumptions before after Woken = Wakes old many new assumptions before after
+Resolves old many new assumptions before after (Ended ended) = EndsAt old new assumptions before after ended
+
+-- after a nap the search goes on, or memory has failed
+abbrev pub HasRested : Cdcl → List Lit → Option End → Type 0
+HasRested c assumptions None = Runs assumptions c
+HasRested c assumptions (Some ended) = ended ≡ Stopped Memory
+
 -- what a turn gives
 abbrev pub IsTurn : SolverState → Cdcl → List Lit → Units → Units → Option End → Type 0
 IsTurn old new assumptions before after None = Goes old new assumptions before after
@@ -97,3 +123,9 @@ Tells lits ended (Ok (Core step)) = ended ≡ Refuted step
 Tells lits ended (Err Memory) = Unit {0}
 Tells lits ended (Err LogFull) = ended ≡ Stopped LogFull
 Tells lits ended (Err (Spent count)) = ended ≡ Stopped (Spent count)
+
+-- a conflict hasn't ended the search
+abbrev pub NotEnded : Resolved → Type 0
+NotEnded Learned = Unit {0}
+NotEnded Woken = Unit {0}
+NotEnded (Ended ended) = ⊥

@@ -9,12 +9,17 @@ ghost use Rattle.unit_propagate.specs.Search.{IsConflict};
 ghost use Rattle.sat_core.specs.Solving.{IsUnitOf, EndsCore, HasSearched, AddsTo, IsRejected, Keeps, Derives};
 ghost use Rattle.sat_core.specs.Solving.{begun, with_unit};
 ghost use Rattle.sat_core.specs.Turns.{state_of, IsKept, IsAtRest, IsReady, Runs, IsAsserting, IsTurn, HasRun, StopsAt};
-ghost use Rattle.sat_core.specs.Turns.{Goes, Tells};
+ghost use Rattle.sat_core.specs.Turns.{Resolves, NotEnded, HasRested, Tells};
 
 use crate::answer::{Added, Solved, UnaddedClause};
 use crate::decision_loop::{DecisionLoop, bump_all};
 use crate::fronts::{begins_with, has_false, size_of_front};
-use crate::logged_clauses::{LoggedClauses, derive, record, steps_of, subsuming_step};
+use crate::loading::{Loaded, load, unpacked};
+use crate::logged_clauses::{
+    LoggedClauses, derive, push_levels, record, steps_of, subsuming_sleeper, subsuming_step,
+};
+use crate::pace::levels_of;
+use crate::sleepers::{bar_of, counts_of, sleeper_at};
 use conflict_learn::{Core, Learned, Learner};
 use hinted_log::{Log, LogFault, MAX_STEPS};
 use lists::{Items, Memory};
@@ -22,12 +27,25 @@ use plain_lits::{Budget, Clause, Halt, Lit, StepId, Trail};
 use std::alloc::Global;
 use unit_propagate::Propagator;
 
+/// How many conflicts come before clauses fall asleep for the first time, and how many more each further time.
+const CONFLICTS_AWAKE: u64 = 2000;
+
+const MORE_CONFLICTS: u64 = 300;
+
 /// How a search ends: all is true, or a step refutes the assumptions, or it stops.
 #[derive(Drop)]
 pub(crate) enum End {
     Satisfied,
     Refuted(StepId),
     Stopped(Halt),
+}
+
+/// What comes of a conflict: a clause is learned, or a step is woken that serves as well, or the search ends.
+#[derive(Drop)]
+pub(crate) enum Resolved {
+    Learned,
+    Woken,
+    Ended(End),
 }
 
 /// Conflict-driven clause learning (Marques-Silva and Sakallah, GRASP, 1996) under assumptions (Eén and Sörensson, An
@@ -41,6 +59,8 @@ pub(crate) struct Cdcl {
     pub(crate) learner: Learner,
     pub(crate) pending: Option<UnaddedClause>,
     pub(crate) front: Vec<Lit>,
+    pub(crate) tired: u64,
+    pub(crate) naps: u64,
 }
 
 // By hand, so that a drop is one call (docs/PROVING.md).
@@ -53,6 +73,8 @@ impl Drop for Cdcl {
             learner: _,
             pending: _,
             front: _,
+            tired: _,
+            naps: _,
         } = self;
     }
 }
@@ -68,6 +90,14 @@ fn kept_level(level: usize) -> usize
         return 2;
     }
     level
+}
+
+/// The number of levels of the clause that was learned last.
+fn last_of(levels: &[u32]) -> u32 {
+    match levels {
+        [] => 0,
+        [.., last] => *last,
+    }
 }
 
 /// What the end of a search tells.
@@ -102,11 +132,16 @@ impl Cdcl {
             logged: LoggedClauses {
                 log,
                 active: Vec::new(alloc),
+                awake: Vec::new(alloc),
+                levels: Vec::new(alloc),
+                asleep: Vec::new(alloc),
                 falsified: Trail::new(alloc),
             },
             learner: Learner::new(alloc),
             pending: None,
             front: Vec::new(alloc),
+            tired: 0,
+            naps: 0,
         })
     }
 
@@ -117,6 +152,7 @@ impl Cdcl {
         assumptions: &[Lit],
         learned: &Learned,
         hints: &[StepId],
+        levels: u32,
     ) -> Result<(), Memory>
         requires kept { IsKept self.old }
         requires run { Runs assumptions.now self.old }
@@ -132,6 +168,8 @@ impl Cdcl {
     {
         let _before = self.decisions.search.vars();
         self.logged.active.reserve(1)?;
+        self.logged.awake.reserve(1)?;
+        push_levels(&mut self.logged.levels, levels)?;
         let clause = learned.clause.copy(self.alloc)?;
         let step = derive(&mut self.logged.log, clause, hints)?;
         self.decisions.back_to(kept_level(learned.level));
@@ -141,6 +179,7 @@ impl Cdcl {
             .search
             .add_learned(learned.clause.as_slice(), learned.asserting)?;
         let _ = self.logged.active.push(step);
+        let _ = self.logged.awake.push(step);
         Ok(())
     }
 
@@ -151,20 +190,38 @@ impl Cdcl {
         assumptions: &[Lit],
         conflict: u32,
         budget: &mut Budget,
-    ) -> Result<(), Halt>
+    ) -> Result<Resolved, Halt>
         requires kept { IsKept self.old }
         requires run { Runs assumptions.now self.old }
         requires deep { 2 < length self.old.decisions.search.starts }
         requires conflict { IsConflict self.old.decisions.search.clauses self.old.decisions.search.lits conflict }
         ensures kept { IsKept self.new }
         ensures derives { Derives (state_of self.old) (state_of self.new) }
-        ensures goes { OnOk result (Goes (state_of self.old) self.new assumptions.now budget.old budget.new) }
+        ensures goes { IfOk result (Resolves (state_of self.old) (length self.old.logged.asleep.items) self.new
+            assumptions.now budget.old budget.new) }
+        ensures goes_on { IfOk result NotEnded }
+        ensures run { OnOk result (Runs assumptions.now self.new) }
         ensures stops { IfErr result (StopsAt (state_of self.old) self.new assumptions.now budget.old budget.new) }
         ensures limit { budget.new.limit ≡ budget.old.limit }
     {
         let _form = self.decisions.search.vars();
         let learned = self.learner.learn(&self.decisions.search, conflict)?;
-        let hints = steps_of(self.alloc, &self.logged.active, learned.hints.as_slice())?;
+        let vars = self.decisions.search.vars();
+        let found = subsuming_sleeper(
+            &self.logged.log,
+            &self.logged.asleep,
+            &mut self.logged.falsified,
+            learned.clause.as_slice(),
+            vars,
+        )?;
+        match found {
+            Some(index) => {
+                self.wake(assumptions, index)?;
+                return Ok(Resolved::Woken);
+            }
+            None => {}
+        }
+        let hints = steps_of(self.alloc, &self.logged.awake, learned.hints.as_slice())?;
         if self.logged.log.is_full() {
             return Err(Halt::LogFull);
         }
@@ -180,8 +237,13 @@ impl Cdcl {
             &mut self.decisions.order,
             learned.hints.as_slice(),
         );
-        self.take(assumptions, &learned, hints.as_slice())?;
-        Ok(())
+        let levels = levels_of(
+            self.alloc,
+            &self.decisions.search,
+            learned.clause.as_slice(),
+        )?;
+        self.take(assumptions, &learned, hints.as_slice(), levels)?;
+        Ok(Resolved::Learned)
     }
 
     /// Ends a search by a step that refutes the assumptions: one that is there, or one that is derived.
@@ -213,38 +275,61 @@ impl Cdcl {
         if self.logged.log.is_full() {
             return Err(Halt::LogFull);
         }
-        let hints = steps_of(self.alloc, &self.logged.active, hints.as_slice())?;
+        let hints = steps_of(self.alloc, &self.logged.awake, hints.as_slice())?;
         let step = derive(&mut self.logged.log, clause, hints.as_slice())?;
         Ok(step)
     }
 
-    /// Resolves a conflict: it ends the search on the first two levels, and else a clause is learned.
+    /// Resolves a conflict: it ends the search on the first two levels, and else a clause is learned or a step woken.
     #[tactic(auto, using(crate::proofs::Keeping::derives_logs))]
-    fn resolve(&mut self, assumptions: &[Lit], conflict: u32, budget: &mut Budget) -> Option<End>
+    fn resolve(&mut self, assumptions: &[Lit], conflict: u32, budget: &mut Budget) -> Resolved
         requires kept { IsKept self.old }
         requires run { Runs assumptions.now self.old }
         requires conflict { IsConflict self.old.decisions.search.clauses self.old.decisions.search.lits conflict }
         ensures kept { IsKept self.new }
         ensures derives { Derives (state_of self.old) (state_of self.new) }
-        ensures turn { IsTurn (state_of self.old) self.new assumptions.now budget.old budget.new result }
+        ensures resolves { Resolves (state_of self.old) (length self.old.logged.asleep.items) self.new assumptions.now
+            budget.old budget.new result }
         ensures limit { budget.new.limit ≡ budget.old.limit }
     {
         if self.decisions.search.starts().len() <= 2 {
             return match self.derive_core(assumptions, conflict) {
-                Ok(step) => Some(End::Refuted(step)),
-                Err(halt) => Some(End::Stopped(halt)),
+                Ok(step) => Resolved::Ended(End::Refuted(step)),
+                Err(halt) => Resolved::Ended(End::Stopped(halt)),
             };
         }
         match self.learn_from(assumptions, conflict, budget) {
-            Ok(()) => {
-                self.decisions.count_conflict();
-                None
+            Ok(resolved) => {
+                self.decisions
+                    .count_conflict(last_of(self.logged.levels.as_slice()));
+                resolved
             }
-            Err(halt) => Some(End::Stopped(halt)),
+            Err(halt) => Resolved::Ended(End::Stopped(halt)),
         }
     }
 
     /// Goes on until a conflict is resolved or all variables have values.
+    #[tactic(auto, using(crate::proofs::Keeping::derives_logs))]
+    fn attempt(&mut self, assumptions: &[Lit], budget: &mut Budget) -> Resolved
+        requires kept { IsKept self.old }
+        requires run { Runs assumptions.now self.old }
+        ensures kept { IsKept self.new }
+        ensures derives { Derives (state_of self.old) (state_of self.new) }
+        ensures resolves { Resolves (state_of self.old) (length self.old.logged.asleep.items) self.new assumptions.now
+            budget.old budget.new result }
+        ensures limit { budget.new.limit ≡ budget.old.limit }
+    {
+        match self.decisions.decide_until_conflict() {
+            Some(conflict) => self.resolve(assumptions, conflict, budget),
+            None => {
+                let _form = self.decisions.search.vars();
+                let _log = self.logged.log.len();
+                Resolved::Ended(End::Satisfied)
+            }
+        }
+    }
+
+    /// Goes on until a clause is learned or the search ends. Each step that is woken meanwhile is one fewer asleep.
     #[tactic(auto, using(crate::proofs::Keeping::derives_logs))]
     fn turn(&mut self, assumptions: &[Lit], budget: &mut Budget) -> Option<End>
         requires kept { IsKept self.old }
@@ -254,13 +339,144 @@ impl Cdcl {
         ensures turn { IsTurn (state_of self.old) self.new assumptions.now budget.old budget.new result }
         ensures limit { budget.new.limit ≡ budget.old.limit }
     {
-        match self.decisions.decide_until_conflict() {
-            Some(conflict) => self.resolve(assumptions, conflict, budget),
-            None => {
-                let _form = self.decisions.search.vars();
-                Some(End::Satisfied)
+        'sleepers: loop {
+            match self.attempt(assumptions, budget) {
+                Resolved::Learned => return self.nap_if_tired(assumptions),
+                Resolved::Woken => {}
+                Resolved::Ended(end) => return Some(end),
             }
         }
+    }
+
+    /// Has clauses fall asleep after so many conflicts, where memory allows.
+    fn nap_if_tired(&mut self, assumptions: &[Lit]) -> Option<End>
+        requires kept { IsKept self.old }
+        requires run { Runs assumptions.now self.old }
+        ensures kept { IsKept self.new }
+        ensures state { state_of self.new ≡ state_of self.old }
+        ensures rested { HasRested self.new assumptions.now result }
+    {
+        self.tired = self.tired.saturating_add(1);
+        if self.tired
+            < self
+                .naps
+                .saturating_mul(MORE_CONFLICTS)
+                .saturating_add(CONFLICTS_AWAKE)
+        {
+            return None;
+        }
+        self.tired = 0;
+        self.naps = self.naps.saturating_add(1);
+        match self.nap(assumptions) {
+            Ok(()) => None,
+            Err(_) => Some(End::Stopped(Halt::Memory)),
+        }
+    }
+
+    /// Takes all back, has clauses fall asleep, and begins again.
+    fn nap(&mut self, assumptions: &[Lit]) -> Result<(), Memory>
+        requires kept { IsKept self.old }
+        requires run { Runs assumptions.now self.old }
+        ensures kept { IsKept self.new }
+        ensures state { state_of self.new ≡ state_of self.old }
+        ensures run { OnOk result (Runs assumptions.now self.new) }
+    {
+        let _form = self.decisions.search.vars();
+        let size = self.front.len().min(assumptions.len());
+        self.give_up_front();
+        let _ = self.load_some();
+        self.begin(assumptions, size)
+    }
+
+    /// Builds the propagator anew with half of the clauses that were learned. Where memory fails, all stays as it is.
+    fn load_some(&mut self) -> Result<(), Memory>
+        requires rest { IsAtRest self.old }
+        requires front { self.old.front.items ≡ [] }
+        ensures rest { IsAtRest self.new }
+        ensures state { state_of self.new ≡ state_of self.old }
+    {
+        let vars = self.decisions.search.vars();
+        let log = &self.logged.log;
+        let bar = bar_of(self.alloc, &self.logged.levels)?;
+        let counts = counts_of(
+            self.alloc,
+            log,
+            &self.logged.awake,
+            &self.logged.levels,
+            bar,
+            vars,
+        )?;
+        let loaded = load(
+            self.alloc,
+            log,
+            &self.logged.awake,
+            &self.logged.levels,
+            &self.logged.asleep,
+            &counts,
+            bar,
+        )?;
+        if loaded.search.vars() < vars {
+            return Err(Memory);
+        }
+        let Loaded {
+            search,
+            awake,
+            levels,
+            asleep,
+        } = loaded;
+        self.decisions.search = search;
+        self.logged.awake = awake;
+        self.logged.levels = levels;
+        self.logged.asleep = asleep;
+        Ok(())
+    }
+
+    /// Takes all back, the front too.
+    fn give_up_front(&mut self)
+        requires kept { IsKept self.old }
+        ensures rest { IsAtRest self.new }
+        ensures state { state_of self.new ≡ state_of self.old }
+        ensures asleep { self.new.logged.asleep.items ≡ self.old.logged.asleep.items }
+        ensures front { self.new.front.items ≡ [] }
+    {
+        self.decisions.back_to(0);
+        self.front.clear();
+    }
+
+    /// Wakes a sleeper: its clause comes to the propagator.
+    fn rouse(&mut self, index: usize) -> Result<(), Memory>
+        requires rest { IsAtRest self.old }
+        requires within { index < length self.old.logged.asleep.items }
+        ensures rest { IsAtRest self.new }
+        ensures state { state_of self.new ≡ state_of self.old }
+        ensures fewer { OnOk result (length self.new.logged.asleep.items < length self.old.logged.asleep.items) }
+    {
+        let sleeper = sleeper_at(&self.logged.asleep, index);
+        let lits = unpacked(self.alloc, self.logged.log.clause(sleeper.step))?;
+        self.logged.awake.reserve(1)?;
+        push_levels(&mut self.logged.levels, 0)?;
+        let _form = self.decisions.search.vars();
+        let _ = self.decisions.search.add(&lits)?;
+        let _ = self.logged.asleep.remove(index);
+        let _ = self.logged.awake.push(sleeper.step);
+        Ok(())
+    }
+
+    /// Takes all back, wakes a sleeper and begins again.
+    fn wake(&mut self, assumptions: &[Lit], index: usize) -> Result<(), Memory>
+        requires kept { IsKept self.old }
+        requires run { Runs assumptions.now self.old }
+        requires within { index < length self.old.logged.asleep.items }
+        ensures kept { IsKept self.new }
+        ensures state { state_of self.new ≡ state_of self.old }
+        ensures run { OnOk result (Runs assumptions.now self.new) }
+        ensures fewer { OnOk result (length self.new.logged.asleep.items < length self.old.logged.asleep.items) }
+    {
+        let _form = self.decisions.search.vars();
+        let size = self.front.len().min(assumptions.len());
+        self.give_up_front();
+        self.rouse(index)?;
+        self.begin(assumptions, size)
     }
 
     /// Searches until an end. Each turn but the last spends a unit of the budget.
@@ -303,6 +519,14 @@ impl Cdcl {
             Ok(()) => {}
             Err(_) => return Err(LogFault::Memory),
         }
+        match self.logged.awake.reserve(1) {
+            Ok(()) => {}
+            Err(_) => return Err(LogFault::Memory),
+        }
+        match push_levels(&mut self.logged.levels, 0) {
+            Ok(()) => {}
+            Err(_) => return Err(LogFault::Memory),
+        }
         let _form = self.decisions.search.vars();
         let kept = clause.copy(self.alloc)?;
         let step = record(&mut self.logged.log, clause, how)?;
@@ -314,6 +538,7 @@ impl Cdcl {
             }
         }
         let _ = self.logged.active.push(step);
+        let _ = self.logged.awake.push(step);
         Ok(step)
     }
 
@@ -332,6 +557,7 @@ impl Cdcl {
         requires plain { (l : Lit) → Contains block.now l → Contains block.now (negation l) → ⊥ }
         ensures rest { IsAtRest self.new }
         ensures state { state_of self.new ≡ state_of self.old }
+        ensures asleep { self.new.logged.asleep.items ≡ self.old.logged.asleep.items }
         ensures one { OnOk result (length self.new.decisions.search.starts ≡ 1) }
         ensures front { OnOk result (self.new.front.items ≡ block.now) }
         ensures lits { OnOk result ((l : Lit) → Contains self.new.decisions.search.lits l → Contains block.now l) }
@@ -353,6 +579,7 @@ impl Cdcl {
         requires within { size ≤ length assumptions.now }
         ensures rest { IsAtRest self.new }
         ensures state { state_of self.new ≡ state_of self.old }
+        ensures asleep { self.new.logged.asleep.items ≡ self.old.logged.asleep.items }
         ensures ready { OnOk result (IsReady assumptions.now self.new) }
     {
         if self.decisions.search.starts().len() == 1
@@ -369,6 +596,7 @@ impl Cdcl {
         requires ready { IsReady assumptions.now self.old }
         ensures rest { IsAtRest self.new }
         ensures state { state_of self.new ≡ state_of self.old }
+        ensures asleep { self.new.logged.asleep.items ≡ self.old.logged.asleep.items }
         ensures ready { OnOk result (IsReady assumptions.now self.new) }
         ensures not_false { OnOk result ((l : Lit) → Contains assumptions.now l
             → Contains self.new.decisions.search.lits (negation l) → ⊥) }
@@ -387,6 +615,7 @@ impl Cdcl {
         requires within { size ≤ length assumptions.now }
         ensures rest { OnErr result (IsAtRest self.new) }
         ensures state { state_of self.new ≡ state_of self.old }
+        ensures asleep { self.new.logged.asleep.items ≡ self.old.logged.asleep.items }
         ensures kept { OnOk result (IsKept self.new) }
         ensures run { OnOk result (Runs assumptions.now self.new) }
         ensures two { OnOk result (length self.new.decisions.search.starts ≡ 2) }
@@ -473,6 +702,7 @@ impl Cdcl {
         ensures limit { budget.new.limit ≡ budget.old.limit }
     {
         self.pending = None;
+        self.tired = 0;
         let vars = self.decisions.search.vars();
         self.decisions.order.make_room(vars)?;
         let size = size_of_front(self.front.as_slice(), assumptions);

@@ -7,23 +7,28 @@ ghost use Rattle.unit_propagate.specs.Search.{GoesBack};
 ghost use Rattle.sat_core.specs.Runs.{GoesOn, HasPropagated, HasDecided, HaveValues, HaveValuesFrom, IsUnsetIn};
 ghost use Rattle.sat_core.specs.Runs.{IsUnsetVar, IsFronted, IsResting};
 
-use decision_order::{DecisionOrder, Luby};
+use crate::pace::Pace;
+use decision_order::DecisionOrder;
 use lists::Memory;
 use plain_lits::{Lit, PackedLit, Value};
 use std::alloc::Global;
 use unit_propagate::{Propagated, Propagator};
 
-/// How many conflicts one step of Luby's sequence is worth.
-const CONFLICTS_A_STEP: u64 = 100;
+/// How many conflicts lie between two restarts, at least.
+const CONFLICTS_A_RUN: u64 = 20;
 
-/// A propagator, the order of decisions, and when it begins anew: after so many `conflicts`. No variable below `next`
-/// has lost its value since all below it had one; `released` counts the literals that have lost theirs.
+/// How many conflicts come before the first restart.
+const YOUNG: u64 = 200;
+
+/// A propagator, the order of decisions, and when it begins anew: by its `pace`, after so many `conflicts`. No variable
+/// below `next` has lost its value since all below it had one; `released` counts the literals that have lost theirs.
 
 pub(crate) struct DecisionLoop {
     pub(crate) search: Propagator,
     pub(crate) order: DecisionOrder,
     pub(crate) next: usize,
-    pub(crate) restarts: Luby,
+    pub(crate) pace: Pace,
+    pub(crate) learned: u64,
     pub(crate) conflicts: u64,
     pub(crate) released: u64,
 }
@@ -35,7 +40,8 @@ impl Drop for DecisionLoop {
             search: _,
             order: _,
             next: _,
-            restarts: _,
+            pace: _,
+            learned: _,
             conflicts: _,
             released: _,
         } = self;
@@ -113,7 +119,8 @@ impl DecisionLoop {
             search,
             order: DecisionOrder::new(alloc),
             next: 0,
-            restarts: Luby::new(),
+            pace: Pace::new(),
+            learned: 0,
             conflicts: 0,
             released: 0,
         }
@@ -224,6 +231,7 @@ impl DecisionLoop {
     /// Takes back all levels but the first.
     pub(crate) fn back_to_front(&mut self)
         ensures clauses { self.new.search.clauses ≡ self.old.search.clauses }
+        ensures vars { self.new.search.vars ≡ self.old.search.vars }
         ensures resting { (front : List Lit) → IsFronted front self.old.search → IsResting front self.new.search }
     {
         let _form = self.search.vars();
@@ -233,17 +241,22 @@ impl DecisionLoop {
         self.back_to(1);
     }
 
-    /// A conflict is over. After so many of them, all decisions are taken back.
-    pub(crate) fn count_conflict(&mut self)
+    /// A conflict is over, of which a clause with so many levels was learned. Where the last ones had many, all
+    /// decisions are taken back.
+    pub(crate) fn count_conflict(&mut self, levels: u32)
         ensures { GoesOn self.old.search self.new.search }
     {
+        self.pace.note(levels);
+        self.learned = self.learned.saturating_add(1);
         self.conflicts = self.conflicts.saturating_add(1);
-        let limit = self.restarts.number().saturating_mul(CONFLICTS_A_STEP);
-        if self.conflicts < limit || self.search.starts().len() <= 2 {
+        if self.learned < YOUNG
+            || self.conflicts < CONFLICTS_A_RUN
+            || !self.pace.is_slow()
+            || self.search.starts().len() <= 2
+        {
             return;
         }
         self.conflicts = 0;
-        self.restarts.advance();
         self.back_to(2);
     }
 }

@@ -8,20 +8,26 @@ ghost use Rattle.plain_lits.specs.Literals.{negation};
 ghost use Rattle.plain_lits.specs.HintCheck.{IsTautology, Checks};
 ghost use Rattle.hinted_log.specs.Logs.{IsStepOf, clauses_of};
 ghost use Rattle.sat_core.specs.Solving.{Records, IsRejected, clause_of};
+ghost use Rattle.sat_core.specs.Sleeping.{AreSleepers, HasNoSubsumingSleeper};
 ghost use Rattle.sat_core.specs.Mirrors.{step_of, AreIds, IsDerived, FalsifiesAll, IsSubsuming, HasNoSubsuming};
 
 use crate::answer::Added;
+use crate::sleepers::{Sleeper, first_falsified_sleeper};
 use hinted_log::{Log, LogFault};
 use lists::{Items, Memory};
 use plain_lits::{Clause, Lit, PackedLit, StepId, Trail, Value};
 use std::alloc::Global;
 
-/// A log, and for each clause of the propagator, in the order of the ids, the number of its step. `falsified` is room for the
-/// look at all steps.
+/// A log, and the numbers of its steps in use. Those that are `awake` are the propagator's clauses, in the order of
+/// their ids, each with its number of levels when it was learned, which is advice; the others are `asleep`. `falsified`
+/// is room for the look at all steps.
 
 pub(crate) struct LoggedClauses {
     pub(crate) log: Log,
     pub(crate) active: Vec<StepId>,
+    pub(crate) awake: Vec<StepId>,
+    pub(crate) levels: Vec<u32>,
+    pub(crate) asleep: Vec<Sleeper>,
     pub(crate) falsified: Trail,
 }
 
@@ -31,6 +37,9 @@ impl Drop for LoggedClauses {
         let LoggedClauses {
             log: _,
             active: _,
+            awake: _,
+            levels: _,
+            asleep: _,
             falsified: _,
         } = self;
     }
@@ -98,7 +107,7 @@ fn falsify(trail: &mut Trail, clause: &[Lit])
 }
 
 /// Whether all literals of a clause are false.
-fn is_falsified(trail: &Trail, part: &[PackedLit]) -> bool
+pub(crate) fn is_falsified(trail: &Trail, part: &[PackedLit]) -> bool
     ensures falsified { OnTrue result ((l : Lit) → Contains part.now l → Contains trail.now.lits (negation l)) }
     ensures free { OnFalse result ((l : Lit) × Contains part.now l × (Contains trail.now.lits (negation l) → ⊥)) }
 {
@@ -158,4 +167,31 @@ pub(crate) fn subsuming_step(
     falsified.make_room(vars)?;
     falsify(falsified, clause);
     Ok(first_falsified(log, falsified, clause))
+}
+
+/// The index of a sleeper whose clause has no literal beyond those of a clause, where there is one. `falsified` is left
+/// with anything.
+pub(crate) fn subsuming_sleeper(
+    log: &Log,
+    asleep: &[Sleeper],
+    falsified: &mut Trail,
+    clause: &[Lit],
+    vars: usize,
+) -> Result<Option<usize>, Memory>
+    requires room { (l : Lit) → Contains clause.now l → l.var < vars }
+    requires plain { IsTautology negation clause.now → ⊥ }
+    requires asleep { AreSleepers log.now.steps asleep.now }
+    ensures { IfOk result (λ found. MatchOption found (HasNoSubsumingSleeper log.now.steps asleep.now clause.now)
+        (λ index. index < length asleep.now)) }
+{
+    falsified.clear();
+    falsified.make_room(vars)?;
+    falsify(falsified, clause);
+    Ok(first_falsified_sleeper(log, asleep, falsified, clause))
+}
+
+/// Notes the number of levels of a clause that is about to come.
+pub(crate) fn push_levels(levels: &mut Vec<u32>, number: u32) -> Result<(), Memory> {
+    levels.push(number)?;
+    Ok(())
 }

@@ -1,6 +1,8 @@
-use Rattle.std.proofs.Common.{◌≡◌, ◌++◌, ◌∷◌, [], length, length-append, ap, ◌∙◌, arith, rules}
+use Rattle.std.proofs.Common.{◌≡◌, ◌++◌, ◌∷◌, [], length, length-append, ap, sym, subst, ◌∙◌, refl, arith, rules}
+use Rattle.std.specs.Prelude.{Contains}
 use Rattle.sat_core.proofs.Running.{resting_stays, resting_more}
-use Rattle.sat_core.proofs.Searching.{recorded_of, mirror_as, mirror_recorded}
+use Rattle.sat_core.proofs.Searching.{recorded_of}
+use Rattle.sat_core.proofs.Holding.{held_as, held_recorded}
 use Rattle.sat_core.proofs.Keeping.{keeps_logs, keeps_recorded, taken_back}
 use Rattle.sat_core.proofs.cdcl.Cdcl.add.Goals as goal
 
@@ -15,8 +17,8 @@ returns-in-Err-add-clause-rest c =
     let r = recorded_of _ _ c.args.clause c.args.how _ c.in_ok-step.ensures.ok in
     let log = taken_back c.args.self.now.logged.log _ _ c.args.clause _ r c.take_back.ensures in
     record {
-      mirror = mirror_as c.args.self.now.decisions.search.clauses _ c.args.self.now.logged.active.items _
-          c.args.self.now.logged.log _ stays.clauses c.reserve.ensures.items log c.requires.rest.mirror;
+      held = held_as _ _ _ _ _ _ _ _ c.args.self.now.logged.log _ stays.clauses stays.assigned.vars
+          c.reserve-2.ensures.items refl c.reserve.ensures.items log c.requires.rest.held;
       resting = resting_stays _ _ _ c.vars-form.ensures.form stays c.requires.rest.resting;
     }
 
@@ -33,11 +35,13 @@ returns-clause-rest c =
     let clause_is : c.as_slice.result.now ≡ c.args.clause = c.as_slice.ensures.lits ∙ c.in_ok-kept.ensures in
     let pushed : c.push.new.self.items ≡ c.args.self.now.logged.active.items ++ c.in_ok-step.step ∷ [] =
     search rules in
+    let woken : c.push-2.new.self.items ≡ c.args.self.now.logged.awake.items ++ c.in_ok-step.step ∷ [] =
+    search rules in
     record {
-      mirror = mirror_recorded c.args.self.now.decisions.search.clauses _ c.args.self.now.logged.active.items _ _ _ _ _
-          r
-          (gains.clauses ∙ ap (λ xs. c.args.self.now.decisions.search.clauses ++ xs ∷ []) clause_is) pushed
-          c.requires.rest.mirror;
+      held = held_recorded _ _ _ _ _ _ _ _ _ _ _ _ r
+          (gains.clauses ∙ ap (λ xs. c.args.self.now.decisions.search.clauses ++ xs ∷ []) clause_is)
+          gains.assigned.vars woken refl pushed
+          (λ x there. gains.known x (subst (λ xs. Contains xs x) (sym clause_is) there)) c.requires.rest.held;
       resting = resting_more _ _ _ _ _ c.vars-form.ensures.form gains c.requires.rest.resting;
     }
 

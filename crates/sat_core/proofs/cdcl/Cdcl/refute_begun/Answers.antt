@@ -1,9 +1,9 @@
-use Rattle.sat_core.proofs.Searching.{mirror_same}
+use Rattle.sat_core.proofs.Holding.{held_on}
 use Rattle.sat_core.proofs.cdcl.Cdcl.refute_begun.Goals as goal
 
 pub derive_core_with_room-requires-clause-kept : goal.derive_core_with_room-requires-clause-kept
 derive_core_with_room-requires-clause-kept c = record {
-  mirror = mirror_same _ _ _ _ c.in-Some.ensures.on.clauses c.requires.kept.mirror;
+  held = held_on _ _ _ _ _ _ c.in-Some.ensures.on c.requires.kept.held;
   fronted = (c.in-Some.ensures.on.run c.args.self.now.front.items c.args.assumptions.now c.requires.run).fronted;
 }
 
@@ -13,6 +13,6 @@ derive_core_with_room-requires-clause-run c = c.in-Some.ensures.on.run c.args.se
 
 pub returns-in-None-clause-kept : goal.returns-in-None-clause-kept
 returns-in-None-clause-kept c = record {
-  mirror = mirror_same _ _ _ _ c.in-None.ensures.on.clauses c.requires.kept.mirror;
+  held = held_on _ _ _ _ _ _ c.in-None.ensures.on c.requires.kept.held;
   fronted = (c.in-None.ensures.on.run c.args.self.now.front.items c.args.assumptions.now c.requires.run).fronted;
 }

@@ -1,4 +1,4 @@
-use Rattle.std.proofs.Common.{◌∙◌, ap}
+use Rattle.std.proofs.Common.{ap}
 use Rattle.sat_core.specs.Solving.{SolverState}
 use Rattle.sat_core.specs.Turns.{state_of}
 use Rattle.sat_core.proofs.Keeping.{derives_logs, derives_trans}

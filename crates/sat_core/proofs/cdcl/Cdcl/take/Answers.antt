@@ -1,8 +1,10 @@
-use Rattle.std.proofs.Common.{◌≡◌, ◌++◌, ◌∷◌, [], arith, ap, sym, subst, ◌∙◌, rules}
+use Rattle.std.proofs.Common.{◌≡◌, ◌++◌, ◌∷◌, [], arith, ap, sym, subst, ◌∙◌, refl, rules}
+use Rattle.std.specs.Prelude.{Contains}
 use Rattle.plain_lits.specs.Literals.{negation}
 use Rattle.plain_lits.specs.HintCheck.{IsUnit}
 use Rattle.sat_core.proofs.Running.{stays_run}
-use Rattle.sat_core.proofs.Turning.{target_within, unit_after, run_after, run_learned, mirror_derived, mirror_learned}
+use Rattle.sat_core.proofs.Turning.{target_within, unit_after, run_after, run_learned}
+use Rattle.sat_core.proofs.Holding.{held_derived, held_learned}
 use Rattle.sat_core.proofs.Turning.{state_learned}
 use Rattle.sat_core.specs.Turns.{state_of}
 use Rattle.sat_core.specs.Solving.{IsShown}
@@ -34,9 +36,14 @@ returns-in_err-add_learned-clause-kept c =
     c.kept_level.ensures.within in
     let stays = c.in_err-add_learned.ensures.err in
     record {
-      mirror = mirror_derived s.clauses _ c.args.self.now.logged.active.items _ c.args.self.now.logged.log _ _ _ _
-          (stays.clauses ∙ c.back_to.ensures.clauses) c.reserve.ensures.items c.in_ok-step.ensures.ok
-          c.requires.kept.mirror;
+      held = held_derived s _ _ _ _ _ _ _ c.args.self.now.logged.log _ c.in_ok-clause.clause _ _
+          (stays.clauses ∙ c.back_to.ensures.clauses)
+          (let a = c.back_to.ensures.vars in let b = stays.assigned.vars in omega (arith, a, b))
+          c.reserve-2.ensures.items refl c.reserve.ensures.items
+          (λ x there.
+          let known = c.requires.asserting.known x (subst (λ xs. Contains xs x) c.in_ok-clause.ensures there) in
+          let a = c.back_to.ensures.vars in let b = stays.assigned.vars in omega (arith, a, b, known))
+          c.in_ok-step.ensures.ok c.requires.kept.held;
       fronted = (stays_run c.args.self.now.front.items c.back_to.new.self.search _ c.args.assumptions.now
           c.vars-form.ensures.form stays
           (run_after c.args.self.now.front.items s c.back_to.new.self.search c.kept_level.result
@@ -55,12 +62,18 @@ returns-clause-kept c =
     ∙ sym c.in_ok-clause.ensures in
     let pushed : c.push.new.self.items ≡ c.args.self.now.logged.active.items ++ c.in_ok-step.step ∷ [] =
     search rules in
+    let woken : c.push-2.new.self.items ≡ c.args.self.now.logged.awake.items ++ c.in_ok-step.step ∷ [] =
+    search rules in
     record {
-      mirror = mirror_learned s.clauses c.back_to.new.self.search.clauses _ c.args.self.now.logged.active.items _
-          c.args.self.now.logged.log _ c.in_ok-clause.clause _ c.in_ok-step.step
-          c.back_to.ensures.clauses
-          (learns.clauses ∙ ap (λ xs. c.back_to.new.self.search.clauses ++ xs ∷ []) clause_is) pushed
-          c.in_ok-step.ensures.ok c.requires.kept.mirror;
+      held = held_learned s _ _ _ _ _ _ _ c.args.self.now.logged.log _ c.in_ok-clause.clause _ c.in_ok-step.step
+          (learns.clauses ∙ (ap (λ xs. c.back_to.new.self.search.clauses ++ xs ∷ []) clause_is
+          ∙ ap (λ xs. xs ++ c.in_ok-clause.clause ∷ []) c.back_to.ensures.clauses))
+          (let a = c.back_to.ensures.vars in let b = learns.vars in omega (arith, a, b))
+          woken refl pushed
+          (λ x there.
+          let known = c.requires.asserting.known x (subst (λ xs. Contains xs x) c.in_ok-clause.ensures there) in
+          let a = c.back_to.ensures.vars in let b = learns.vars in omega (arith, a, b, known))
+          c.in_ok-step.ensures.ok c.requires.kept.held;
       fronted = (run_learned c.args.self.now.front.items s c.back_to.new.self.search _ l.level c.kept_level.result
           l.clause l.asserting _
           c.args.assumptions.now c.vars-before.ensures.form c.vars-form.ensures.form c.requires.asserting
@@ -99,3 +112,15 @@ returns-clause-derives c =
     (subst (λ xs. IsShown (state_of c.args.self.now) xs c.args.hints.now) (sym c.in_ok-clause.ensures)
     c.requires.shown.shown)
     (state_learned (state_of c.args.self.now) _ _ _ _ _ c.in_ok-step.ensures.ok pushed)
+
+pub returns-in_err-reserve-clause-derives : goal.returns-in_err-reserve-clause-derives
+returns-in_err-reserve-clause-derives c = derives_logs _ _ refl c.reserve.ensures.items
+
+pub returns-in_err-reserve-2-clause-derives : goal.returns-in_err-reserve-2-clause-derives
+returns-in_err-reserve-2-clause-derives c = derives_logs _ _ refl c.reserve.ensures.items
+
+pub returns-in_err-push_levels-clause-derives : goal.returns-in_err-push_levels-clause-derives
+returns-in_err-push_levels-clause-derives c = derives_logs _ _ refl c.reserve.ensures.items
+
+pub returns-in_err-clause-clause-derives : goal.returns-in_err-clause-clause-derives
+returns-in_err-clause-clause-derives c = derives_logs _ _ refl c.reserve.ensures.items

@@ -1,33 +1,35 @@
-use Rattle.std.proofs.Common.{refl}
-use Rattle.sat_core.specs.Turns.{state_of}
-use Rattle.sat_core.proofs.Descending.{model_of}
-use Rattle.sat_core.proofs.Searching.{mirror_same}
+use Rattle.std.proofs.Common.{◌∙◌, refl}
+use Rattle.sat_core.proofs.Resolving.{ends_from, rested_turn, derives_from}
 use Rattle.sat_core.proofs.cdcl.Cdcl.turn.Goals as goal
 
-pub resolve-requires-clause-kept : goal.resolve-requires-clause-kept
-resolve-requires-clause-kept c = record {
-  mirror = mirror_same _ _ _ _ c.in-Some.ensures.on.clauses c.requires.kept.mirror;
-  fronted = (c.in-Some.ensures.on.run c.args.self.now.front.items c.args.assumptions.now c.requires.run).fronted;
-}
+pub returns-in-Learned-clause-turn : goal.returns-in-Learned-clause-turn
+returns-in-Learned-clause-turn c =
+    rested_turn _ _ _ _ _ _ _ _ _ c.sleepers.invariant.state c.sleepers.invariant.used
+    c.nap_if_tired.ensures.state c.nap_if_tired.ensures.rested c.in-Learned.ensures.resolves
 
-pub resolve-requires-clause-run : goal.resolve-requires-clause-run
-resolve-requires-clause-run c = c.in-Some.ensures.on.run c.args.self.now.front.items c.args.assumptions.now
-    c.requires.run
+pub returns-in-Learned-clause-derives : goal.returns-in-Learned-clause-derives
+returns-in-Learned-clause-derives c =
+    derives_from _ _ _ _ c.sleepers.invariant.state c.nap_if_tired.ensures.state c.in-Learned.ensures.derives
 
-pub returns-in-None-clause-kept : goal.returns-in-None-clause-kept
-returns-in-None-clause-kept c = record {
-  mirror = mirror_same _ _ _ _ c.in-None.ensures.on.clauses c.requires.kept.mirror;
-  fronted = (c.in-None.ensures.on.run c.args.self.now.front.items c.args.assumptions.now c.requires.run).fronted;
-}
+pub returns-in-Ended-clause-turn : goal.returns-in-Ended-clause-turn
+returns-in-Ended-clause-turn c =
+    ends_from _ _ c.attempt.new.self _ c.sleepers.budget c.args.budget.now _ _ c.sleepers.invariant.state
+    c.sleepers.invariant.used c.in-Ended.ensures.resolves
 
-pub returns-in-None-clause-turn : goal.returns-in-None-clause-turn
-returns-in-None-clause-turn c =
-    let on = c.in-None.ensures.on in
-    let found = c.in-None.ensures.found in (
-      refl,
-      refl,
-      model_of (state_of c.args.self.now) c.args.self.now.front.items c.decide_until_conflict.new.self.search
-          c.args.assumptions.now
-          (mirror_same _ _ _ _ on.clauses c.requires.kept.mirror) c.vars-form.ensures.form
-          (on.run c.args.self.now.front.items c.args.assumptions.now c.requires.run) found.0 found.1,
-    )
+pub returns-in-Ended-clause-derives : goal.returns-in-Ended-clause-derives
+returns-in-Ended-clause-derives c =
+    derives_from _ _ _ _ c.sleepers.invariant.state refl c.in-Ended.ensures.derives
+
+pub sleepers-preserved : goal.sleepers-preserved
+sleepers-preserved c =
+    let w = c.in-Woken.ensures.resolves in
+    record {
+      kept = c.in-Woken.ensures.kept;
+      run = w.run;
+      state = w.state ∙ c.sleepers.invariant.state;
+      used = w.unspent ∙ c.sleepers.invariant.used;
+      limit = c.in-Woken.ensures.limit ∙ c.sleepers.invariant.limit;
+    }
+
+pub sleepers-smaller : goal.sleepers-smaller
+sleepers-smaller c = c.in-Woken.ensures.resolves.fewer
