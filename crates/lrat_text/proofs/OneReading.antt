@@ -1,12 +1,11 @@
 -- A text is that of one CNF or has one first fault, and with a CNF a text comes to one verdict or has one first fault.
-use Rattle.std.proofs.Common.{◌≡◌, ◌≢◌, ◌⊎◌, ℕ, ◌<◌, ◌≤◌, Bool, true, false, List, [], ◌∷◌, ◌++◌, length, fold, inl, inr, ap, sym, subst, refl, ◌∙◌, arith, ⊎_elim}
-use Rattle.std.specs.Prelude.{Contains, Result, Ok, Err, codes, drop, slice_index_or}
+use Rattle.std.proofs.Common.{◌≡◌, ◌≢◌, ℕ, Bool, true, false, List, [], ◌∷◌, ◌++◌, length, fold, inl, inr, ap, sym, subst, refl, ◌∙◌, arith}
+use Rattle.std.specs.Prelude.{Result, Ok, Err, codes, drop, slice_index_or}
 use Rattle.std.specs.List.{AllZip}
 use Rattle.num_text.specs.Cuts.{LineText, field_texts, lines_of}
 use Rattle.num_text.specs.Number.{IsNumber, digits_value}
 use Rattle.plain_lits.specs.declared.lit.Lit.{Lit}
 use Rattle.plain_lits.specs.Literals.{negation}
-use Rattle.plain_lits.specs.HintCheck.{Checks}
 use Rattle.plain_lits.proofs.LitOrder.{lit_same}
 use Rattle.plain_lits.proofs.OneOutcome.{cases_lit, one_outcome}
 use Rattle.lrat_text.specs.declared.fault.CnfCause.{CnfCause}
@@ -18,13 +17,13 @@ use Rattle.lrat_text.specs.declared.fault.LratCause.TheVariants.{BadLine, BadNum
 use Rattle.lrat_text.specs.declared.fault.LratFault.{LratFault}
 use Rattle.lrat_text.specs.declared.fault.LratFault.TheVariants.{At as AtLine, Memory as NoMemory}
 use Rattle.lrat_text.specs.declared.verdict.Verdict.{Verdict}
-use Rattle.lrat_text.specs.declared.verdict.Verdict.TheVariants.{Verified, RejectedStep, NoEmptyClause}
+use Rattle.lrat_text.specs.declared.verdict.Verdict.TheVariants.{Verified}
 use Rattle.lrat_text.specs.Causes.{IsFirstCnfCause, IsFirstLratCause, cnf_rank, lrat_rank}
 use Rattle.lrat_text.specs.Lines.{cnf_kept, lrat_kept}
 use Rattle.lrat_text.specs.Numbers.{IsSigned, SpellsLit, sign_text}
-use Rattle.lrat_text.specs.CnfText.{Cut, Formula, IsBadFirstLine, IsBodyFault, IsCnfFault, IsCnfRead, IsCnfText, IsHeader, IsWhole, HeaderStands, Leads, ReadsTo, SpellsBounded, adds, cut, end_of, formula, no_cut}
+use Rattle.lrat_text.specs.CnfText.{Cut, Formula, IsBadFirstLine, IsBodyFault, IsCnfFault, IsCnfRead, IsCnfText, IsHeader, HeaderStands, Leads, ReadsTo, SpellsBounded, adds, cut, end_of, formula, no_cut}
 use Rattle.lrat_text.specs.CnfText.{LineStands as CnfStands}
-use Rattle.lrat_text.specs.Checking.{ComesTo, Fails, Passes, StepLine, StepList, number_of, step_line, steps_of, with_line}
+use Rattle.lrat_text.specs.Checking.{ComesTo, Fails, Passes, StepLine, StepList, step_line, steps_of, with_line}
 use Rattle.lrat_text.specs.LratText.{AreSteps, IsChecked, IsFirstFault, IsStepLine, IsToldOf, LineStands}
 use Rattle.lrat_text.specs.Unsatisfiable.{IsUnsatisfiable}
 use Rattle.lrat_text.proofs.CnfLines.{all_bounded}
@@ -107,9 +106,9 @@ record SameHeader (v c w d : ℕ) : Type 0 where
 one_header : (fields : List (List ℕ)) (v c w d : ℕ) → IsHeader fields v c → IsHeader fields w d → SameHeader v c w d
 one_header fields v c w d h k =
     let at_two : h.vars_field ≡ k.vars_field =
-        sym (ap (λ fs. slice_index_or fs 2 []) h.fields_are) ∙ ap (λ fs. slice_index_or fs 2 []) k.fields_are in
+    sym (ap (λ fs. slice_index_or fs 2 []) h.fields_are) ∙ ap (λ fs. slice_index_or fs 2 []) k.fields_are in
     let at_three : h.count_field ≡ k.count_field =
-        sym (ap (λ fs. slice_index_or fs 3 []) h.fields_are) ∙ ap (λ fs. slice_index_or fs 3 []) k.fields_are in
+    sym (ap (λ fs. slice_index_or fs 3 []) h.fields_are) ∙ ap (λ fs. slice_index_or fs 3 []) k.fields_are in
     record {
       vars = sym h.vars_are.value ∙ (ap digits_value at_two ∙ k.vars_are.value);
       count = sym h.count_is.value ∙ (ap digits_value at_three ∙ k.count_is.value);
@@ -128,7 +127,7 @@ one_lead : (vars : ℕ) (fields : List (List ℕ)) (before a b : Cut) → Leads 
     → Leads vars fields before b → a ≡ b
 one_lead vars fields before a b g h =
     let same = one_zip (SpellsBounded vars) (λ x l m i j. one_literal x l m i.signed j.signed) fields g.numbers h.numbers
-        g.spelled h.spelled in
+    g.spelled h.spelled in
     g.leads_to ∙ (ap (λ ns. fold adds before ns) same ∙ sym h.leads_to)
 
 lead_no_fault : (vars : ℕ) (fields : List (List ℕ)) (before a : Cut) (cause : CnfCause) → Leads vars fields before a
@@ -189,8 +188,8 @@ same_body end one other more rest v c w d r s same_line same_rest head tail read
     let same = one_header (field_texts other.text) v c w d here tail in
     let there : ReadsTo end w d no_cut rest r
     = subst (λ ls. ReadsTo end w d no_cut ls r) same_rest
-        (subst (λ x. ReadsTo end x d no_cut more r) same.vars
-        (subst (λ n. ReadsTo end v n no_cut more r) same.count reads)) in
+    (subst (λ x. ReadsTo end x d no_cut more r) same.vars
+    (subst (λ n. ReadsTo end v n no_cut more r) same.count reads)) in
     record { vars = same.vars; result = one_read end w d no_cut rest r s there also }
 
 one_body : (bytes : List ℕ) (v w : ℕ) (r s : Result (List (List Lit)) (ℕ × CnfCause)) → IsBody bytes v r
@@ -232,7 +231,7 @@ fault_in other (Err fault) = fault
 pub one_formula : (bytes : List ℕ) (f g : Formula) → IsCnfText bytes f → IsCnfText bytes g → f ≡ g
 one_formula bytes f g a b =
     let same = one_body bytes f.vars g.vars (Ok f.clauses) (Ok g.clauses) (body_of_text bytes f a)
-        (body_of_text bytes g b) in
+    (body_of_text bytes g b) in
     ap (λ v. formula v f.clauses) same.vars ∙ ap (λ cs. formula g.vars cs) (ap clauses_in same.result)
 
 -- a body's header is good
@@ -243,14 +242,14 @@ body_no_first end lines others header v c line cause cut head bad =
     = subst (λ ls. IsBadFirstLine end ls line cause) cut bad in
     header_no_fault (field_texts header.text) v c cause head here.1.stands
 
-text_no_fault : (bytes : List ℕ) (f : Formula) (line : ℕ) (cause : CnfCause) → IsCnfText bytes f
+pub text_no_fault : (bytes : List ℕ) (f : Formula) (line : ℕ) (cause : CnfCause) → IsCnfText bytes f
     → IsCnfFault bytes line cause → ⊥
 text_no_fault bytes f line cause h (inl bad) =
     body_no_first (end_of bytes) (cnf_kept (lines_of bytes)) h.others h.header f.vars h.count line cause h.lines
     h.header_is bad
 text_no_fault bytes f line cause h (inr bad) =
     let same = (one_body bytes f.vars bad.vars (Ok f.clauses) (Err (line, cause)) (body_of_text bytes f h)
-        (body_of_fault bytes line cause bad)).result in
+    (body_of_fault bytes line cause bad)).result in
     absurd (cc same)
 
 one_first_line : (end : ℕ) (lines : List LineText) (n : ℕ) (a : CnfCause) (m : ℕ) (b : CnfCause)
@@ -260,7 +259,7 @@ one_first_line end (header ∷ others) n a m b g h =
     ap (λ k. At k a) (g.0 ∙ sym h.0)
     ∙ ap (λ c. At m c) (one_cnf_cause (HeaderStands (field_texts header.text)) a b g.1 h.1)
 
-one_cnf_fault : (bytes : List ℕ) (n : ℕ) (a : CnfCause) (m : ℕ) (b : CnfCause) → IsCnfFault bytes n a
+pub one_cnf_fault : (bytes : List ℕ) (n : ℕ) (a : CnfCause) (m : ℕ) (b : CnfCause) → IsCnfFault bytes n a
     → IsCnfFault bytes m b → At n a ≡ At m b
 one_cnf_fault bytes n a m b (inl g) (inl h) = one_first_line (end_of bytes) (cnf_kept (lines_of bytes)) n a m b g h
 one_cnf_fault bytes n a m b (inl g) (inr h) =
@@ -271,7 +270,7 @@ one_cnf_fault bytes n a m b (inr g) (inl h) =
     g.header_is h)
 one_cnf_fault bytes n a m b (inr g) (inr h) =
     let same = (one_body bytes g.vars h.vars (Err (n, a)) (Err (m, b)) (body_of_fault bytes n a g)
-        (body_of_fault bytes m b h)).result in
+    (body_of_fault bytes m b h)).result in
     ap (λ (f : ℕ × CnfCause). At f.0 f.1) (ap (fault_in (n, a)) same)
 
 pub one_cnf_reading : (bytes : List ℕ) (one other : Result Formula CnfFault) → IsCnfRead bytes one
@@ -292,7 +291,7 @@ one_step : (vars last : ℕ) (fields : List (List ℕ)) (s t : StepLine)
 one_step vars last fields s t g h =
     let ids = one_number _ s.id t.id g.id_is h.id_is in
     let clauses = one_zip (SpellsLit vars) (λ x l m i j. one_literal x l m i.signed j.signed) _ s.clause t.clause
-        g.literals h.literals in
+    g.literals h.literals in
     let hints = one_zip IsNumber one_number _ s.hints t.hints g.hints_are h.hints_are in
     ap (λ id. step_line id s.clause s.hints) ids
     ∙ (ap (λ clause. step_line t.id clause s.hints) clauses ∙ ap (λ hs. step_line t.id t.clause hs) hints)
@@ -319,7 +318,7 @@ one_refutation vars last (line ∷ lines) (s ∷ a) (t ∷ b) g h =
     cons_same s t a b (sym same) (one_refutation vars s.id lines a b g.1
     (subst (λ (x : StepLine). AreSteps vars x.id lines b) same h.1))
 
-steps_no_fault : (vars last : ℕ) (lines : List LineText) (a : List StepLine) (n : ℕ) (cause : LratCause)
+pub steps_no_fault : (vars last : ℕ) (lines : List LineText) (a : List StepLine) (n : ℕ) (cause : LratCause)
     → AreSteps vars last lines a → IsFirstFault vars last lines n cause → ⊥
 steps_no_fault vars last [] a n cause g h = absurd h
 steps_no_fault vars last (line ∷ lines) [] n cause g h = absurd g
@@ -330,7 +329,7 @@ steps_no_fault vars last (line ∷ lines) (s ∷ a) n cause g (inl (t, is, later
 steps_no_fault vars last (line ∷ lines) (s ∷ a) n cause g (inr bad) =
     step_no_fault vars last (field_texts line.text) s cause g.0 bad.1.stands
 
-one_lrat_fault : (vars last : ℕ) (lines : List LineText) (n : ℕ) (a : LratCause) (m : ℕ) (b : LratCause)
+pub one_lrat_fault : (vars last : ℕ) (lines : List LineText) (n : ℕ) (a : LratCause) (m : ℕ) (b : LratCause)
     → IsFirstFault vars last lines n a → IsFirstFault vars last lines m b → AtLine n a ≡ AtLine m b
 one_lrat_fault vars last [] n a m b g h = absurd g
 one_lrat_fault vars last (line ∷ lines) n a m b (inl (s, g, more)) (inl (t, h, others)) =
@@ -350,7 +349,7 @@ one_lrat_fault vars last (line ∷ lines) n a m b (inr g) (inr h) =
 passes_or_fails : (steps : StepList) (line : StepLine) → Passes steps line → Fails steps line → ⊥
 passes_or_fails steps line (n, taken) (place, rejected) =
     let same : Ok n ≡ Err place = (one_outcome negation cases_lit steps.clauses line.clause _).one (Ok n) (Err place)
-        taken rejected in
+    taken rejected in
     absurd (cc same)
 
 pub one_verdict : (steps : StepList) (lines : List StepLine) (a b : Verdict) → ComesTo steps lines a

@@ -1,5 +1,5 @@
 -- The text of a refutation, its faults, and what the check tells of it.
-use Rattle.std.specs.Prelude.{◌≡◌, ◌⊎◌, ◌↔◌, Bool, ℕ, ◌+◌, ◌-◌, ◌<◌, ◌≤◌, List, [], ◌∷◌, ◌++◌, length, drop, Contains, codes, slice_index_or}
+use Rattle.std.specs.Prelude.{◌≡◌, ◌⊎◌, ◌↔◌, Bool, ℕ, ◌-◌, ◌<◌, ◌≤◌, List, [], ◌∷◌, length, drop, Contains, slice_index_or}
 use Rattle.std.specs.Prelude.{Result, Ok, Err, Option, None, Some, true}
 use Rattle.std.specs.List.{AllZip}
 use Rattle.num_text.specs.Cuts.{LineText, field_texts, lines_of}
