@@ -6,10 +6,11 @@ Three parts, each of which ends in a line of its own; the script ends with statu
 - `export`: on ten frameworks (the same on each run, eight abstract ones and two with rules) it has the program answer
   the 26 tasks with a certificate, and export every refutation that the certificate has. Each pair of files has to be
   accepted by the checker that is given, and by `argue lrat`; and what `EXPORTED V C L` tells has to be so of the files.
-- `traces`: `picosat.trace -T` (of Debian's package picosat) refutes twenty CNFs that are generated here: pigeons and holes,
-  parities round a ring of constraints, and random clauses of three literals, one of them with more than 100,000 steps.
-  Its trace names the antecedents of each step in no order. They are put in order by unit propagation, the steps are
-  written as LRAT, and the checker and `argue lrat` have to verify them.
+- `traces`: `picosat -T` refutes twenty CNFs that are generated here: pigeons and holes, sums round a ring, and random
+  clauses of three literals, one of them with more than 100,000 steps. Its trace names the antecedents of each step in
+  no order. They are put in order by unit propagation, the steps are written as LRAT, and the checker and `argue lrat`
+  have to verify them. Both programs of Debian's package 965-2 were built without traces, so it has to be one built from
+  its source: `apt-get source picosat`, then `./configure.sh -O --trace && make picosat` in it.
 - `speed`: `lrat` beside the checker on refutations of 1,000,000 steps: a chain of clauses of two literals, and the
   clauses of ten literals and five hints of `bench/check.py`. It has to take at most twice the checker's seconds of the
   processor, by medians of runs in turn, and 1,000 MB. And `export` of the latter certificate, which has to write
@@ -25,7 +26,6 @@ import argparse
 import itertools
 import os
 import random
-import shutil
 import statistics
 import subprocess
 import sys
@@ -167,7 +167,7 @@ def pigeons(holes):
 
 
 def parities(choose, count):
-    """Sums of three neighbours on a ring and one chord: each variable in two sums, and the sum of all is odd."""
+    """Sums of three variables each, on a ring with chords: a variable is in two sums, and all sums together are odd."""
     sums = [[] for _ in range(count)]
     edges = [(at, (at + 1) % count) for at in range(count)]
     ends = list(range(count))
@@ -192,15 +192,14 @@ def threes(choose, count, clauses):
 
 
 def formulas():
-    """Names, numbers of variables and clauses of twenty formulas without a model, of which the last is long."""
+    """Names, numbers of variables and clauses of twenty formulas without a model; ten pigeons take the most steps."""
     choose = random.Random(7)
-    for holes in range(2, 8):
+    for holes in range(2, 10):
         yield f"{holes + 1} pigeons", *pigeons(holes)
     for count in (6, 8, 10, 12, 14):
         yield f"parities, {count}", *parities(choose, count)
-    for count in (20, 40, 60, 80, 100, 120, 140, 160):
-        yield f"random, {count} variables", *threes(choose, count, count * 7)
-    yield "random, 230 variables", *threes(choose, 230, 1100)
+    for count in (20, 40, 60, 80, 120, 160, 200):
+        yield f"random, {count} variables", *threes(choose, count, count * 5)
 
 
 def write_cnf(name, vars_, clauses):
@@ -391,7 +390,7 @@ def main():
     words = argparse.ArgumentParser(description=__doc__.splitlines()[0])
     words.add_argument("--checker", required=True, help="called as CHECKER CNF LRAT; it prints `s VERIFIED`")
     words.add_argument("--program", default=str(TOP / "out" / "argue"), help="the built program, else ./argue builds it")
-    words.add_argument("--picosat", default=shutil.which("picosat.trace") or "picosat")
+    words.add_argument("--picosat", default=shutil.which("picosat.trace") or "picosat.trace")
     words.add_argument("--only", choices=("export", "traces", "speed"))
     words.add_argument("--runs", type=int, default=5)
     words.add_argument("--steps", type=int, default=1_000_000)
