@@ -356,7 +356,8 @@ def rated(calls, folder, steps, runs):
         file.writelines(f"{b} {a}\n" for b, a in map(check.pair, range(check.PAIRS)))
     Path(answer).write_text("NO\n", encoding="ascii")
     check.write_certificate(certificate, steps)
-    words = ["export", "-p", "DC-CO", "-f", framework, "-a", "1", "-r", answer, "-c", certificate, "-i", "1", "-o", name]
+    query = ["-p", "DC-CO", "-f", framework, "-a", "1", "-r", answer, "-c", certificate]
+    words = ["export", *query, "-i", "1", "-o", name]
     rates, most = [], 0
     for _ in range(runs):
         _, memory, status, used = check.timed(calls.program, words, out)
@@ -389,7 +390,7 @@ def speed(calls, folder, steps, runs):
 def main():
     words = argparse.ArgumentParser(description=__doc__.splitlines()[0])
     words.add_argument("--checker", required=True, help="called as CHECKER CNF LRAT; it prints `s VERIFIED`")
-    words.add_argument("--program", default=str(TOP / "out" / "argue"), help="the built program, else ./argue builds it")
+    words.add_argument("--program", default=str(TOP / "out" / "argue"), help="the built program; ./argue builds this one")
     words.add_argument("--picosat", default=shutil.which("picosat.trace") or "picosat.trace")
     words.add_argument("--only", choices=("export", "traces", "speed"))
     words.add_argument("--runs", type=int, default=5)
