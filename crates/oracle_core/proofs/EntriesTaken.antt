@@ -15,21 +15,14 @@ use Rattle.oracle_face.specs.Logs.{OracleLog}
 use Rattle.oracle_face.specs.Trades.{GivesFirst, GivesFrom, GivesMore}
 use Rattle.oracle_face.proofs.GrowingLemmas.{grows_as, grows_same, run_joined, run_none}
 use Rattle.entry_taking.specs.Taking.{ImportsOrMayNot}
-use Rattle.oracle_core.specs.declared.parts.EngineParts.{EngineParts}
+use Rattle.framework_solver.specs.declared.solver.FrameworkSolver.{FrameworkSolver}
 use Rattle.oracle_core.specs.declared.trading.TheConstants.{MAX_TAKEN}
-use Rattle.oracle_core.specs.Engines.{AreInForce, IsWhole}
-use Rattle.oracle_core.specs.Stepping.{GoesOnBySteps}
-use Rattle.oracle_core.specs.SteppingLaws.{goes_on_joined, goes_on_none, goes_on_still}
+use Rattle.framework_solver.specs.Solvers.{AreInForce, IsWhole}
+use Rattle.framework_solver.specs.Stepping.{GoesOnBySteps}
+use Rattle.framework_solver.specs.SteppingLaws.{goes_on_joined, goes_on_none, goes_on_still}
 use Rattle.oracle_core.specs.Trading.{AnySide, TakesAll, TakesFrom}
 use Rattle.oracle_core.specs.TradingLaws.{prefix_joined, prefix_none, takes_joined}
-use Rattle.oracle_core.proofs.Forcing.{force_grown}
-
-pub comes_at : (r : Result (Unit {0}) Memory) (kind : Bool) (f : Framework) (own : ℕ) (entry : Entry)
-    (old new : OracleLog) → is_assumption_based f ≡ kind
-    → OnOk r ((f : Framework) → is_assumption_based f ≡ kind → ImportsOrMayNot f own entry old new)
-    → OnOk r (ImportsOrMayNot f own entry old new)
-comes_at (Ok u) kind f own entry old new same comes = comes f same
-comes_at (Err e) kind f own entry old new same comes = tt
+use Rattle.framework_solver.proofs.Forcing.{force_grown}
 
 pub any_side : (a b : OracleLog) → Grows NoSide a b → Grows AnySide a b
 any_side a b h = grows_as NoSide AnySide a b (λ literals set made. tt) h
@@ -110,7 +103,7 @@ some_most f own told left a b count most h =
 -- ---- the loop
 
 -- how far the loop over the entries has come
-pub record IsTaking (own : ℕ) (first now : EngineParts) (left_first left : Option (List Entry))
+pub record IsTaking (own : ℕ) (first now : FrameworkSolver) (left_first left : Option (List Entry))
     (gave_first gave : List Entry) (count : ℕ) : Type 0 where
   pub whole : IsWhole now
   pub framework : now.framework ≡ first.framework
@@ -122,7 +115,7 @@ pub record IsTaking (own : ℕ) (first now : EngineParts) (left_first left : Opt
   pub given : (told : List Entry) → left_first ≡ Some told
       → TakesSome (framework_of first.framework) own told left first.solver.log now.solver.log count
 
-pub taking_none : (own : ℕ) (p : EngineParts) (left : Option (List Entry)) (gave : List Entry) → IsWhole p
+pub taking_none : (own : ℕ) (p : FrameworkSolver) (left : Option (List Entry)) (gave : List Entry) → IsWhole p
     → AreInForce (framework_of p.framework) p.solver.log → IsTaking own p p left left gave gave 0
 taking_none own p left gave whole force = record {
   whole = whole;
@@ -134,7 +127,7 @@ taking_none own p left gave whole force = record {
   given = λ told is. some_none (framework_of p.framework) own told left p.solver.log is;
 }
 
-pub run_more : (first now after : EngineParts) → now.framework ≡ first.framework
+pub run_more : (first now after : FrameworkSolver) → now.framework ≡ first.framework
     → ((units : Units) → HasRun NoSide 0 (framework_of first.framework) first.solver.log now.solver.log
     now.solver.pending units units None)
     → ((units : Units) → HasRun NoSide 0 (framework_of now.framework) now.solver.log after.solver.log
@@ -163,7 +156,7 @@ gave_more first gave new entry longer gives =
     prefix_joined first gave new longer (gave_longer gave new entry gives)
 
 -- the steps before it, and those by which it was taken in
-pub steps_more : (own : ℕ) (first now after : EngineParts) (gave new : List Entry) (entry : Entry)
+pub steps_more : (own : ℕ) (first now after : FrameworkSolver) (gave new : List Entry) (entry : Entry)
     → GivesMore gave (Ok (Some entry)) new → now.framework ≡ first.framework
     → GoesOnBySteps (framework_of first.framework) own gave first.solver.log now.solver.log
     → ((given : List Entry) → Contains given entry
@@ -176,7 +169,7 @@ steps_more own first now after gave new entry gives framework steps next =
     (goes_on_still f own gave new first.solver.log now.solver.log (gave_longer gave new entry gives) steps)
     (subst (λ g. GoesOnBySteps g own new now.solver.log after.solver.log) (ap framework_of framework) (next new there))
 
-pub taking_more : (own : ℕ) (first now after : EngineParts) (left_first left new : Option (List Entry))
+pub taking_more : (own : ℕ) (first now after : FrameworkSolver) (left_first left new : Option (List Entry))
     (gave_first gave gave_new : List Entry) (entry : Entry) (count : ℕ)
     → IsTaking own first now left_first left gave_first gave count → GivesFirst left (Ok (Some entry)) new
     → GivesMore gave (Ok (Some entry)) gave_new → IsWhole after → after.framework ≡ now.framework
@@ -203,7 +196,7 @@ taking_more own first now after left_first left new gave_first gave gave_new ent
           comes);
     }
 
-pub taking_last : (own : ℕ) (first now : EngineParts) (left_first left new : Option (List Entry))
+pub taking_last : (own : ℕ) (first now : FrameworkSolver) (left_first left new : Option (List Entry))
     (gave_first gave : List Entry) (count : ℕ) → IsTaking own first now left_first left gave_first gave count
     → GivesFirst left (Ok None) new → (told : List Entry) → left_first ≡ Some told
     → TakesAll (framework_of first.framework) own told new first.solver.log now.solver.log
@@ -211,7 +204,7 @@ taking_last own first now left_first left new gave_first gave count h gives told
     some_last (framework_of first.framework) own told left new first.solver.log now.solver.log count (h.given told is)
     gives
 
-pub taking_most : (own : ℕ) (first now : EngineParts) (left_first left : Option (List Entry))
+pub taking_most : (own : ℕ) (first now : FrameworkSolver) (left_first left : Option (List Entry))
     (gave_first gave : List Entry) (count : ℕ) → MAX_TAKEN ≤ count
     → IsTaking own first now left_first left gave_first gave count → (told : List Entry) → left_first ≡ Some told
     → TakesAll (framework_of first.framework) own told left first.solver.log now.solver.log

@@ -17,9 +17,10 @@ use Rattle.iccma_tasks.specs.Tasks.{Asked}
 use Rattle.session_log.specs.Ends.{LoopInHand, MadeFor}
 use Rattle.oracle_face.proofs.GrowingLemmas.{grows_as, run_as, run_joined}
 use Rattle.oracle_core.specs.Engines.{EngineState, forgotten}
-use Rattle.oracle_core.specs.Stepping.{GoesOnBySteps, ServesInHand}
+use Rattle.framework_solver.specs.Stepping.{GoesOnBySteps}
+use Rattle.oracle_core.specs.InHand.{ServesInHand}
 use Rattle.oracle_core.specs.Trading.{AnySide, IsEmptied, TakesAll, TakesFrom, Trades}
-use Rattle.oracle_core.specs.SteppingLaws.{goes_on_alone}
+use Rattle.framework_solver.specs.SteppingLaws.{goes_on_alone}
 use Rattle.oracle_core.specs.TradingLaws.{from_none, prefix_none}
 use Rattle.oracle_core.proofs.EntriesTaken.{any_side}
 

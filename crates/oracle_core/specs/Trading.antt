@@ -6,8 +6,9 @@ use Rattle.oracle_face.specs.declared.entry.Entry.{Entry}
 use Rattle.oracle_face.specs.Growing.{Making, Grows}
 use Rattle.oracle_face.specs.Logs.{OracleLog}
 use Rattle.entry_taking.specs.Taking.{ImportsOrMayNot}
-use Rattle.oracle_core.specs.Engines.{AreInForce, EngineState}
-use Rattle.oracle_core.specs.Stepping.{GoesOnBySteps}
+use Rattle.framework_solver.specs.Solvers.{AreInForce}
+use Rattle.oracle_core.specs.Engines.{EngineState}
+use Rattle.framework_solver.specs.Stepping.{GoesOnBySteps}
 use Rattle.oracle_core.specs.declared.trading.TheConstants.{MAX_TAKEN}
 
 -- any side clauses

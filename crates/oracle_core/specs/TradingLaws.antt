@@ -8,8 +8,8 @@ use Rattle.oracle_face.specs.Growing.{Grows}
 use Rattle.oracle_face.specs.Logs.{OracleLog}
 use Rattle.oracle_face.proofs.GrowingLemmas.{grows_joined, grows_same}
 use Rattle.oracle_core.specs.Engines.{EngineState}
-use Rattle.oracle_core.specs.Stepping.{GoesOnBySteps}
-use Rattle.oracle_core.specs.SteppingLaws.{goes_on_joined, goes_on_none, goes_on_still}
+use Rattle.framework_solver.specs.Stepping.{GoesOnBySteps}
+use Rattle.framework_solver.specs.SteppingLaws.{goes_on_joined, goes_on_none, goes_on_still}
 use Rattle.oracle_core.specs.Trading.{AnySide, TakesFrom, TakesIn, Trades}
 
 pub goes_on : (a b c : OracleLog) → Grows AnySide a b → Grows AnySide b c → Grows AnySide a c

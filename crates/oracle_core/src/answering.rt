@@ -9,7 +9,7 @@ ghost use Rattle.oracle_face.specs.declared.entry.Entry.{Entry as AnEntry};
 ghost use Rattle.session_log.specs.Ends.{IsShownBy as IsShownByLog, LoopInHand, MadeFor, is_by_grounded};
 ghost use Rattle.query_answers.specs.Answers.{IsEvidence, IsOutcome};
 ghost use Rattle.oracle_core.specs.Answers.{IsShownBy};
-ghost use Rattle.oracle_core.specs.Stepping.{GoesOnBySteps};
+ghost use Rattle.framework_solver.specs.Stepping.{GoesOnBySteps};
 ghost use Rattle.oracle_core.specs.Trading.{IsEmptied, TakesFrom};
 ghost use Rattle.oracle_core.specs.Answering.{IsCause, NeedsSearch, halt_behind};
 

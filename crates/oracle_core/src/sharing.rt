@@ -4,12 +4,12 @@ ghost use Rattle.std.specs.Prelude.{◌≡◌, ℕ, List, IfOk, IfSome, IsTrue, 
 ghost use Rattle.oracle_face.specs.StepSources.{imported_of, source_of};
 ghost use Rattle.oracle_face.specs.declared.step_source.StepSource.TheVariants.{Entry as OfEntry};
 ghost use Rattle.oracle_face.specs.Logs.{IsNumberOf, by_hints, step_at};
-ghost use Rattle.oracle_core.specs.Engines.{IsWhole};
+ghost use Rattle.framework_solver.specs.Solvers.{IsWhole};
 ghost use Rattle.oracle_core.specs.Sharing.{AreNamesOf, CallsAny, IsEntryOf, IsNamedAs, IsShareableStep};
 
 use crate::engine::Engine;
-use crate::parts::EngineParts;
 use atom_solver::AtomSolver;
+use framework_solver::FrameworkSolver;
 use lists::{Items, Memory};
 use oracle_face::{ClauseTrade, Entry, EntryName, EntryOrigin, HintName, StepSource};
 use plain_lits::StepId;
@@ -125,7 +125,7 @@ fn shared_entry(
 fn offer_step<T: ClauseTrade>(
     alloc: Global,
     own: u32,
-    parts: &EngineParts,
+    parts: &FrameworkSolver,
     step: StepId,
     trade: &mut T,
 ) -> bool
@@ -150,7 +150,7 @@ fn offer_step<T: ClauseTrade>(
 fn offer_from<T: ClauseTrade>(
     alloc: Global,
     own: u32,
-    parts: &EngineParts,
+    parts: &FrameworkSolver,
     from: usize,
     trade: &mut T,
 ) -> usize

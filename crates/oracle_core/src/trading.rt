@@ -8,14 +8,14 @@ ghost use Rattle.oracle_face.specs.Growing.{HasRun, IsFound, NoSide, Obliges, On
 ghost use Rattle.oracle_face.specs.Logs.{IsKept};
 ghost use Rattle.oracle_face.specs.declared.entry.Entry.{Entry as AnEntry};
 ghost use Rattle.plain_lits.specs.Units.{Units};
-ghost use Rattle.oracle_core.specs.Engines.{AreInForce, IsWhole};
+ghost use Rattle.framework_solver.specs.Solvers.{AreInForce, IsWhole};
 ghost use Rattle.session_log.specs.Ends.{LoopInHand};
 ghost use Rattle.oracle_core.specs.Engines.{forgotten};
-ghost use Rattle.oracle_core.specs.Stepping.{GoesOnBySteps};
+ghost use Rattle.framework_solver.specs.Stepping.{GoesOnBySteps};
 ghost use Rattle.oracle_core.specs.Trading.{IsEmptied, TakesAll, Trades};
 
 use crate::engine::Engine;
-use crate::parts::EngineParts;
+use framework_solver::FrameworkSolver;
 use lists::Memory;
 use meaning_atoms::AtomLit;
 use oracle_face::{AskId, ClauseTrade, Found, Oracle};
@@ -30,7 +30,7 @@ pub const MAX_TAKEN: usize = 1_024;
 pub(crate) fn take_all<T: ClauseTrade>(
     alloc: Global,
     own: u32,
-    parts: &mut EngineParts,
+    parts: &mut FrameworkSolver,
     trade: &mut T,
 ) -> Result<(), Memory>
     requires whole { IsWhole parts.old }
@@ -231,8 +231,8 @@ pub(crate) struct Trading<'a, T: ClauseTrade> {
 }
 
 impl<'a, T: ClauseTrade> Oracle for Trading<'a, T> {
-    ghost use Rattle.oracle_core.specs.Stepping.{ServesInHand};
-    ghost use Rattle.oracle_core.specs.SteppingLaws.{in_hand_joined, in_hand_none};
+    ghost use Rattle.oracle_core.specs.InHand.{ServesInHand};
+    ghost use Rattle.oracle_core.specs.InHand.{in_hand_joined, in_hand_none};
     ghost use Rattle.oracle_core.specs.Trading.{Trades};
     ghost use Rattle.oracle_core.specs.TradingLaws.{trades_none, trades_joined};
     ghost use Rattle.std.proofs.Common.{◌≡◌, ◌∙◌, refl};

@@ -17,7 +17,7 @@ use Rattle.oracle_core.specs.declared.reply.AnswerStop.{AnswerStop}
 use Rattle.oracle_core.specs.declared.reply.AnswerStop.TheVariants as stop
 use Rattle.oracle_core.specs.Answering.{IsCause, halt_behind}
 use Rattle.oracle_core.specs.Answers.{IsShownBy}
-use Rattle.oracle_core.specs.Stepping.{GoesOnBySteps}
+use Rattle.framework_solver.specs.Stepping.{GoesOnBySteps}
 use Rattle.session_replies.specs.declared.reply.Body.{Body}
 use Rattle.session_replies.specs.declared.reply.Body.TheVariants.{Done, EditRefused, Full}
 use Rattle.session_replies.specs.declared.reply.Body.TheVariants.{Answered as OfAnswered, QueryRefused, Unknown}

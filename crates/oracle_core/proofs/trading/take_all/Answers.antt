@@ -2,7 +2,7 @@ use Rattle.std.proofs.Common.{◌≡◌, rules, subst, sym, Ok, None}
 use Rattle.oracle_face.specs.Trades.{GivesFirst, GivesMore}
 use Rattle.edit_rules.specs.Kinds.{framework_of}
 use mathlib.Core.List.{IsPrefix}
-use Rattle.oracle_core.specs.Stepping.{GoesOnBySteps}
+use Rattle.framework_solver.specs.Stepping.{GoesOnBySteps}
 use Rattle.oracle_core.proofs.EntriesTaken.{gave_more, none_more, run_more, steps_more, taking_last, taking_more}
 use Rattle.oracle_core.proofs.EntriesTaken.{taking_most, taking_none}
 use Rattle.oracle_core.proofs.trading.take_all.Goals as goal

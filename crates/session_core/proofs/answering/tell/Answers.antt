@@ -2,7 +2,7 @@ use Rattle.std.proofs.Common.{ap, map, subst, sym}
 use Rattle.std.proofs.lemmas.List.Elements.{All-nil}
 use Rattle.clause_pool.specs.Pools.{AreInRow, AreTokensOf, IsTokenOf, entry_of}
 use Rattle.oracle_core.specs.Engines.{EngineState}
-use Rattle.oracle_core.specs.Stepping.{GoesOnBySteps}
+use Rattle.framework_solver.specs.Stepping.{GoesOnBySteps}
 use Rattle.clause_pool.proofs.RowLemmas.{none_yet}
 use Rattle.session_core.proofs.ReplyLemmas.{told_is}
 use Rattle.session_core.proofs.answering.tell.Goals as goal

@@ -2,7 +2,7 @@ use Rattle.std.proofs.Common.{sym, ◌∙◌, true, None}
 use Rattle.plain_lits.specs.Units.{Units}
 use Rattle.oracle_face.specs.Growing.{NoSide}
 use Rattle.oracle_core.specs.TradingLaws.{trades_joined}
-use Rattle.oracle_core.proofs.Joining.{forced_then, halted_any}
+use Rattle.framework_solver.proofs.Joining.{forced_then, halted_any}
 use Rattle.oracle_core.proofs.TradeLemmas.{all_trades, forced_trades, lost_trades, ok_of, run_lost}
 use Rattle.oracle_core.proofs.engine.Engine.force_and_take.Goals as goal
 

@@ -4,7 +4,7 @@ use Rattle.oracle_face.specs.Growing.{HasRun, halt_of}
 use Rattle.oracle_face.specs.declared.face.Pending.{Pending}
 use Rattle.session_log.specs.Ends.{LoopInHand, MadeFor}
 use Rattle.oracle_core.specs.Engines.{EngineState}
-use Rattle.oracle_core.specs.Stepping.{GoesOnBySteps}
+use Rattle.framework_solver.specs.Stepping.{GoesOnBySteps}
 use Rattle.oracle_core.specs.Trading.{IsEmptied, TakesFrom}
 use Rattle.oracle_core.specs.TradingLaws.{trades_joined}
 use Rattle.oracle_core.proofs.TradeLemmas.{emptied_later, not_memory, ok_so, only_prepared, run_lost, searched, serves_at}

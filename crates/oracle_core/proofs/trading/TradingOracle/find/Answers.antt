@@ -1,7 +1,7 @@
 use Rattle.std.proofs.Common.{inl, refl}
 use Rattle.oracle_face.specs.Growing.{closes, halt_of}
 use Rattle.oracle_core.specs.TradingLaws.{trades_joined}
-use Rattle.oracle_core.proofs.Joining.{forced_then, goals_still, halted}
+use Rattle.framework_solver.proofs.Joining.{forced_then, goals_still, halted}
 use Rattle.oracle_core.proofs.trading.TradingOracle.find.Goals as goal
 
 pub returns-in_err-prepare-clause-run : goal.returns-in_err-prepare-clause-run
