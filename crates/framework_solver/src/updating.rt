@@ -187,7 +187,7 @@ impl FrameworkSolver {
     }
 
     /// Changes the framework by an edit that it takes, and puts the axioms that it needs then in force.
-    fn update(&mut self, alloc: Global, effect: &Effect) -> Result<(), UpdateStop>
+    pub fn update(&mut self, alloc: Global, effect: &Effect) -> Result<(), UpdateStop>
         requires whole { IsWhole self.old }
         requires taken { IsTaken (framework_of self.old.framework) effect.now.edit effect.now }
         ensures whole { IsWhole self.new }
