@@ -91,46 +91,6 @@ begun_gains p b c framework solver gains =
     subst (λ (k : AtomState). GainsNeeded (framework_of p.framework) k.log c) solver
     (subst (λ f. GainsNeeded (framework_of f) b.solver.log c) framework gains)
 
--- the parts as they are before a search, and then with the axioms in force
-pub record IsCourse (p t : FrameworkSolver) (units : Units) : Type 0 where
-  pub framework : t.framework ≡ p.framework
-  pub forced : HasRun NoSide 0 (framework_of p.framework) p.solver.log t.solver.log t.solver.pending units units None
-
-module _ (p t s : FrameworkSolver) (units : Units) (course : IsCourse p t units) where
-  pub searched_run : (most : ℕ) (after : Units) (halt : Option Halt)
-      → HasRun NoSide most (framework_of t.framework) t.solver.log s.solver.log s.solver.pending units after halt
-      → HasRun NoSide most (framework_of p.framework) p.solver.log s.solver.log s.solver.pending units after halt
-  searched_run most after halt run =
-      forced_then (framework_of p.framework) (framework_of t.framework) p.solver.log t.solver.log s.solver.log
-      t.solver.pending s.solver.pending units after most halt (ap framework_of course.framework) course.forced run
-
-  -- what may be asked before the axioms came may be asked then
-  pub forced_goals : (goals : List AtomLit) → AreGoals (framework_of p.framework) p.solver.log.sides goals
-      → AreGoals (framework_of t.framework) t.solver.log.sides goals
-  forced_goals goals are =
-      goals_still (framework_of p.framework) (framework_of t.framework) p.solver.log t.solver.log goals
-      course.forced.grows (ap framework_of course.framework) are
-
-  pub searched_found : (goals : List AtomLit) (r : Result Found Halt)
-      → IfOk r (IsFound (framework_of t.framework) s.solver.log goals)
-      → IfOk r (IsFound (framework_of p.framework) s.solver.log goals)
-  searched_found goals r found =
-      subst (λ f. IfOk r (IsFound f s.solver.log goals)) (ap framework_of course.framework) found
-
-  -- axioms that came, and what the search added
-  pub searched_steps : ((own : ℕ) → GoesOnBySteps (framework_of p.framework) own [] p.solver.log t.solver.log)
-      → (halt : Option Halt)
-      → UnlessMemory halt ((own : ℕ) → GoesOnBySteps (framework_of t.framework) own [] t.solver.log s.solver.log)
-      → UnlessMemory halt ((own : ℕ) → GoesOnBySteps (framework_of p.framework) own [] p.solver.log s.solver.log)
-  searched_steps first halt steps =
-      let f = framework_of p.framework in
-      unless_then ((own : ℕ) → GoesOnBySteps (framework_of t.framework) own [] t.solver.log s.solver.log)
-      ((own : ℕ) → GoesOnBySteps f own [] p.solver.log s.solver.log)
-      (λ then own. goes_on_joined f own [] p.solver.log t.solver.log s.solver.log
-      (first own)
-      (subst (λ g. GoesOnBySteps g own [] t.solver.log s.solver.log) (ap framework_of course.framework) (then own)))
-      halt steps
-
 -- ---- one search of several
 
 -- a halt that a search of several hands on
@@ -181,14 +141,18 @@ pub record HasTurned (first now : FrameworkSolver) (before after : Units) : Type
       after None
   pub steps : (own : ℕ) → GoesOnBySteps (framework_of first.framework) own [] first.solver.log now.solver.log
 
-pub turned_none : (p : FrameworkSolver) (units : Units) → IsWhole p → AreInForce (framework_of p.framework) p.solver.log
-    → HasTurned p p units units
-turned_none p units whole force = record {
+-- the axioms came, and no search was made yet
+pub turned_first : (p t : FrameworkSolver) (units : Units) → IsWhole t → t.framework ≡ p.framework
+    → AreInForce (framework_of t.framework) t.solver.log
+    → HasRun NoSide 0 (framework_of p.framework) p.solver.log t.solver.log t.solver.pending units units None
+    → ((own : ℕ) → GoesOnBySteps (framework_of p.framework) own [] p.solver.log t.solver.log)
+    → HasTurned p t units units
+turned_first p t units whole same force run steps = record {
   whole = whole;
-  framework = refl;
-  in_force = force;
-  run = run_none NoSide 0 (framework_of p.framework) p.solver.log p.solver.pending units;
-  steps = λ own. goes_on_none (framework_of p.framework) own [] p.solver.log;
+  framework = same;
+  in_force = subst (λ f. AreInForce f t.solver.log) (ap framework_of same) force;
+  run = run;
+  steps = steps;
 }
 
 module _ (first now next : FrameworkSolver) (before between after : Units) (turned : HasTurned first now before between)

@@ -358,35 +358,8 @@ impl FrameworkSolver {
         }
     }
 
-    /// A set that makes each goal true, or a step that refutes the goals, where the needed axioms are in force. A model
-    /// that lacks a loop clause is no answer: the search goes on with that clause.
-    fn find_forced(
-        &mut self,
-        alloc: Global,
-        goals: &[AtomLit],
-        budget: &mut Budget,
-    ) -> Result<Found, Halt>
-        requires whole { IsWhole self.old }
-        requires goals { AreGoals (framework_of self.old.framework) self.old.solver.log.sides goals.now }
-        requires in_force { AreInForce (framework_of self.old.framework) self.old.solver.log }
-        ensures whole { IsWhole self.new }
-        ensures framework { self.new.framework ≡ self.old.framework }
-        ensures found { IfOk result (IsFound (framework_of self.old.framework) self.new.solver.log goals.now) }
-        ensures run { HasRun NoSide (closes result) (framework_of self.old.framework) self.old.solver.log
-            self.new.solver.log self.new.solver.pending budget.old budget.new (halt_of result) }
-        ensures steps { UnlessMemory (halt_of result) ((own : ℕ) → GoesOnBySteps (framework_of self.old.framework)
-            own [] self.old.solver.log self.new.solver.log) }
-        ensures in_hand { EndsInHand (halt_of result) self.new.solver.log self.new.solver.pending }
-    {
-        'models: loop {
-            match self.turn(alloc, goals, budget)? {
-                Some(found) => return Ok(found),
-                None => {}
-            }
-        }
-    }
-
-    /// A set that makes each goal true, or a step that refutes the goals.
+    /// A set that makes each goal true, or a step that refutes the goals. A model that lacks a loop clause is no answer:
+    /// the search goes on with that clause.
     pub fn find(
         &mut self,
         alloc: Global,
@@ -405,7 +378,12 @@ impl FrameworkSolver {
         ensures in_hand { EndsInHand (halt_of result) self.new.solver.log self.new.solver.pending }
     {
         self.add_needed_axioms(alloc)?;
-        self.find_forced(alloc, goals, budget)
+        'models: loop {
+            match self.turn(alloc, goals, budget)? {
+                Some(found) => return Ok(found),
+                None => {}
+            }
+        }
     }
 
     /// Behind a call that ended so, forgets the clause in hand unless the budget was spent, and raises the flag where memory

@@ -15,6 +15,7 @@ ghost use Rattle.framework_solver.specs.Stepping.{GoesOnBySteps};
 ghost use Rattle.oracle_core.specs.Trading.{IsEmptied, TakesAll, Trades};
 
 use crate::engine::Engine;
+use crate::sharing::offer_from;
 use framework_solver::FrameworkSolver;
 use lists::Memory;
 use meaning_atoms::AtomLit;
@@ -149,29 +150,6 @@ impl Engine {
 }
 
 impl Engine {
-    /// One search. The flag is raised where memory is refused.
-    fn find_settled(
-        &mut self,
-        alloc: Global,
-        goals: &[AtomLit],
-        budget: &mut Budget,
-        lost: &mut bool,
-    ) -> Result<Found, Halt>
-        requires { AreGoals self.old.framework self.old.log.sides goals.now }
-        ensures found { IfOk result (IsFound self.old.framework self.new.log goals.now) }
-        ensures run { HasRun NoSide (closes result) self.old.framework self.old.log self.new.log self.new.pending
-            budget.old budget.new (halt_of result) }
-        ensures number { self.new.number ≡ self.old.number }
-        ensures framework { self.new.framework ≡ self.old.framework }
-        ensures kept { IsKept self.new.framework self.new.log }
-        ensures lost { lost.new ≡ false → lost.old ≡ false }
-        ensures steps { lost.new ≡ false
-            → GoesOnBySteps self.old.framework self.old.number [] self.old.log self.new.log }
-        ensures in_hand { LoopInHand self.new.log self.new.pending }
-    {
-        self.parts.find_settled(alloc, goals, budget, lost)
-    }
-
     /// One search, behind which a trade is offered what was derived. The flag is raised where memory is refused.
     fn find_and_offer<T: ClauseTrade>(
         &mut self,
@@ -191,8 +169,8 @@ impl Engine {
         ensures kept { IsKept self.new.framework self.new.log }
         ensures in_hand { LoopInHand self.new.log self.new.pending }
     {
-        let end = self.find_settled(alloc, goals, budget, lost);
-        self.offer(alloc, trade);
+        let end = self.parts.find_settled(alloc, goals, budget, lost);
+        self.offered = offer_from(alloc, self.number, &self.parts, self.offered, trade);
         end
     }
 

@@ -1,6 +1,6 @@
 use Rattle.std.specs.Prelude.{◌-◌, length}
 use Rattle.framework_solver.proofs.Joining.{HasTurned}
-use Rattle.framework_solver.proofs.solver.FrameworkSolver.find_forced.Given as goal
+use Rattle.framework_solver.proofs.solver.FrameworkSolver.find.Given as goal
 
 abbrev pub invariant-models : goal.invariant-models
 invariant-models l = HasTurned l.fn.self l.self l.fn.budget l.budget
