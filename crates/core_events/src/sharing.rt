@@ -17,7 +17,7 @@ use crate::stop::StepStop;
 use core_logs::equality::entries_are_equal;
 use core_logs::literals::{asks_nothing, copy_clause};
 use core_logs::steps::{find_step, is_number};
-use core_logs::{CoreStep, StepSource};
+use core_logs::{CoreStep, Justification};
 use lists::{Items, Memory};
 use oracle_face::{Entry, EntryName, EntryOrigin, HintName};
 use plain_lits::StepId;
@@ -31,8 +31,8 @@ fn name_of(alloc: Global, session: u32, step: &CoreStep, number: StepId) -> Resu
         return Ok(HintName::Entry(name));
     }
     match step.source() {
-        StepSource::Axiom(name) => Ok(HintName::Axiom(name.copy(alloc)?)),
-        StepSource::Side(_) | StepSource::Hints(_) => {
+        Justification::Axiom(name) => Ok(HintName::Axiom(name.copy(alloc)?)),
+        Justification::Side(_) | Justification::Hints(_) => {
             Ok(HintName::Entry(EntryName {
                 session,
                 step: number,
@@ -80,14 +80,14 @@ fn origin_of(
     alloc: Global,
     session: u32,
     steps: &[CoreStep],
-    source: &StepSource,
+    source: &Justification,
 ) -> Result<Option<EntryOrigin>, Memory>
     ensures { IfOk result (OriginOfSome session steps.now (source_of source.now)) }
 {
     match source {
-        StepSource::Side(_) => Ok(None),
-        StepSource::Axiom(name) => Ok(Some(EntryOrigin::Axiom(name.copy(alloc)?))),
-        StepSource::Hints(hints) => {
+        Justification::Side(_) => Ok(None),
+        Justification::Axiom(name) => Ok(Some(EntryOrigin::Axiom(name.copy(alloc)?))),
+        Justification::Hints(hints) => {
             let names = hint_names(alloc, session, steps, hints.as_slice())?;
             Ok(Some(EntryOrigin::Hints(names)))
         }
