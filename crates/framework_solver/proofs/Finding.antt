@@ -1,5 +1,6 @@
 -- A model of the needed axioms and the goals is read as a set that makes the goals true.
-use Rattle.std.proofs.Common.{◌≡◌, ◌∙◌, ⊎_elim, ℕ, ◌-◌, ◌<◌, ◌≤◌, Bool, true, false, true≢false, not, List, [], ◌∷◌, length, take, refl, sym, ap, subst, arith, inl, inr}
+use Rattle.std.proofs.Common.{◌≡◌, ◌∙◌, ⊎_elim, ℕ, ◌-◌, ◌<◌, ◌≤◌, Bool, true, false, true≢false, not, List, [], ◌∷◌}
+use Rattle.std.proofs.Common.{length, take, refl, sym, ap, subst, arith, inl, inr}
 use Rattle.std.specs.Prelude.{Contains, filter}
 use Rattle.std.proofs.lemmas.List.{get_or-map, length-map, take_all}
 use Rattle.std.proofs.lemmas.List.Elements.{Contains-get_or}
@@ -23,14 +24,17 @@ use Rattle.certificate_claims.specs.Refutations.{axiom_clause}
 use Rattle.certificate_claims.specs.SetLiterals.{members}
 use Rattle.oracle_face.specs.Decoding.{IsModelOf, IsNewLoop, IsReadBack, ReadsBack, TellsMembers}
 use Rattle.oracle_face.specs.Goals.{AreGoals, AsksAtom, IsGoal, IsMode, MakesTrue, SpeaksOf, Tells}
-use Rattle.oracle_face.specs.Logs.{OracleLog, LogStep, SideClause, FactsAreFalse, IsGiven, IsLog, IsNew, IsNumberOf, IsSameClause, Source, by_axiom, by_side, by_hints, clauses_of, guarded, literals_of, no_step, side_at, step_at, working}
+use Rattle.oracle_face.specs.Logs.{OracleLog, LogStep, SideClause, FactsAreFalse, IsGiven, IsLog, IsNew, IsNumberOf}
+use Rattle.oracle_face.specs.Logs.{IsSameClause, Source, by_axiom, by_side, by_hints, clauses_of, guarded, literals_of}
+use Rattle.oracle_face.specs.Logs.{no_step, side_at, step_at, working}
 use Rattle.oracle_face.proofs.StepTruth.{side_literals}
 use Rattle.session_log.specs.Ends.{IsTakenByNone}
 use Rattle.atom_solver.specs.States.{IsGuardedLog, UsesAxioms}
 use Rattle.atom_solver.specs.Searches.{AreUnfixed, Satisfies}
 use Rattle.framework_solver.specs.Solvers.{AreInForce}
 use Rattle.framework_solver.proofs.Forcing.{step_used}
-use Rattle.framework_solver.proofs.KindLemmas.{member_axiom, member_needed, member_spoken, notion_axiom, notion_is, notion_needed, unfixed_goal}
+use Rattle.framework_solver.proofs.KindLemmas.{member_axiom, member_needed, member_spoken, notion_axiom, notion_is}
+use Rattle.framework_solver.proofs.KindLemmas.{notion_needed, unfixed_goal}
 
 twice : (b : Bool) → not (not b) ≡ b
 twice true = refl
@@ -189,7 +193,8 @@ module _ (f : Framework) (log : OracleLog) (goals values : List AtomLit) (name :
         let sound = taken_sound negated clauses (axiom_clause name) hints (length hints) checks in
         let all : take (length hints) hints ≡ hints = take_all (length hints) hints (omega arith) in
         let found = sound.follows (lit_value (affirms values ok.plain)) (opposite values ok.plain)
-        (λ hint there. hint_true hint (sound.named hint there) (kept hint (subst (λ xs. Contains xs hint) all there))) in
+        (λ hint there. hint_true hint (sound.named hint there) (kept hint (subst (λ xs. Contains xs hint) all there)))
+        in
         let l = found.0 in
         let denies = said values ok.plain (negated l) (lacks.false_there l found.1) in
         true≢false (sym denies ∙ (opposite values ok.plain l ∙ ap not found.2));
@@ -296,7 +301,8 @@ module _ (f : Framework) (log : OracleLog) (goals values : List AtomLit) (set : 
       record {
         low = omega arith;
         high = omega (arith, length-map log.sides (λ (side : SideClause). side.literals));
-        true_there = subst (λ clause. IsTrueAlone (world_of f set) clause) (sym (side_literals log.sides n named)) (record {
+        true_there = subst (λ clause. IsTrueAlone (world_of f set) clause) (sym (side_literals log.sides n named))
+        (record {
           literal = found.0;
           member = member;
           says = tells_holds found.0 (speaks found.0 member) found.2;

@@ -73,7 +73,8 @@ waits_grown P f old new names taken grows all = λ name needed. ⊎_elim
     (λ has. inl (axiom_grown P old new name grows has)) (λ waits. inr waits) (all name needed)
 
 -- the parts of an engine whose solver has gone on
-pub whole_with : (P : Making) (p : FrameworkSolver) (s : AtomState) → IsWhole p → IsGuardedLog (framework_of p.framework)
+pub whole_with : (P : Making) (p : FrameworkSolver) (s : AtomState) → IsWhole p
+    → IsGuardedLog (framework_of p.framework)
     s.log
     → Grows P p.solver.log s.log → IsWhole (record p { solver = s })
 whole_with P p s whole guarded grows = record {

@@ -1,5 +1,6 @@
 -- What a call of the solver adds is steps of the session.
-use Rattle.std.proofs.Common.{◌≡◌, ◌∙◌, ⊎_elim, ℕ, ◌+◌, Bool, true, true≢false, refl, List, [], ◌∷◌, ◌++◌, length, ap, arith, sym, subst, inl}
+use Rattle.std.proofs.Common.{◌≡◌, ◌∙◌, ⊎_elim, ℕ, ◌+◌, Bool, true, true≢false, refl, List, [], ◌∷◌, ◌++◌, length, ap}
+use Rattle.std.proofs.Common.{arith, sym, subst, inl}
 use Rattle.std.specs.Prelude.{◌⊎◌, ◌&&◌, cond, count_by, None, Option, Result, Some, Ok, Err, IsErr, IsErrAnd}
 use Rattle.std.proofs.lemmas.Bool.{false≢true}
 use Rattle.lists.proofs.Counts.{count_by-cons}
@@ -13,13 +14,15 @@ use Rattle.oracle_face.specs.declared.entry.Entry.{Entry}
 use Rattle.oracle_face.specs.declared.face.Pending.{Pending}
 use Rattle.oracle_face.specs.declared.face.Pending.TheVariants.{Learned, Loop, Side}
 use Rattle.oracle_face.specs.Growing.{HasRun, NoSide, UnlessMemory, halt_of}
-use Rattle.oracle_face.specs.Logs.{OracleLog, LogStep, IsNew, IsNumberOf, by_axiom, by_hints, by_side, is_loop, is_unit, step_at, units_of, working}
+use Rattle.oracle_face.specs.Logs.{OracleLog, LogStep, IsNew, IsNumberOf, by_axiom, by_hints, by_side, is_loop, is_unit}
+use Rattle.oracle_face.specs.Logs.{step_at, units_of, working}
 use Rattle.oracle_face.proofs.GrowingLemmas.{unless_then}
 use Rattle.session_log.specs.Ends.{IsTakenByNone, LoopInHand}
 use Rattle.session_log.specs.Steps.{LearnsClauses, nothing as none_learned, one_more as one_learned, own_step}
 use Rattle.session_log.proofs.AxiomLemmas.{needed_no_loop}
 use Rattle.session_log.proofs.GivenSteps.{gains_one}
-use Rattle.session_log.specs.OwnSteps.{IsCalledOn, IsWanted, OwnStep, keeps_side, learns_axiom, learns_clause, nothing, one_more}
+use Rattle.session_log.specs.OwnSteps.{IsCalledOn, IsWanted, OwnStep, keeps_side, learns_axiom, learns_clause, nothing}
+use Rattle.session_log.specs.OwnSteps.{one_more}
 use Rattle.session_log.specs.OwnSteps.{takes_entry}
 use Rattle.atom_solver.specs.States.{AddsAxiom, AtomState, IsNoLoop, TakesSideOf}
 use Rattle.framework_solver.specs.Stepping.{EndsInHand, GoesOnBySteps}
@@ -148,7 +151,8 @@ entry_serves : (f : Framework) (own : ℕ) (given : List Entry) (a b : OracleLog
     → is_loop name ≡ true
     → IsTakenByNone a.steps (axiom_clause name)
 entry_serves f own given a b (learns_axiom name clause learns) same other source loop =
-    absurd (loop_counts name clause a b (ap is_loop (same_axiom name other source) ∙ loop) learns.takes.gains.steps same)
+    absurd (loop_counts name clause a b (ap is_loop (same_axiom name other source) ∙ loop) learns.takes.gains.steps
+    same)
 entry_serves f own given a b (learns_clause clause hints closing learns) same other source loop =
     absurd (hints_no_axiom hints other source)
 entry_serves f own given a b (keeps_side literals set clause takes) same other source loop =

@@ -20,7 +20,7 @@ use Rattle.atom_solver.specs.States.{AtomState}
 use Rattle.framework_solver.specs.declared.solver.FrameworkSolver.{FrameworkSolver}
 use Rattle.framework_solver.specs.Solvers.{AreInForce, IsWhole}
 use Rattle.framework_solver.specs.Readings.{IsTurn, closes_turn}
-use Rattle.framework_solver.specs.Stepping.{EndsInHand, GoesOnBySteps, in_hand_behind, lost_by}
+use Rattle.framework_solver.specs.Stepping.{EndsInHand, GoesOnBySteps, in_hand_behind, out_of_memory_by}
 use Rattle.framework_solver.specs.SteppingLaws.{goes_on_joined, goes_on_none}
 use Rattle.framework_solver.specs.Updating.{GainsNeeded}
 use Rattle.framework_solver.proofs.Forcing.{force_grown, whole_with}
@@ -75,19 +75,19 @@ pub then_memory : (f : Framework) (a c : OracleLog) (q : Option Pending) (u v : 
 then_memory f a c q u v run =
     record { grows = run.grows; limit = run.limit; works = tt; closing = tt; stop = tt }
 
--- what was run from the parts as they were begun was run from those before
-pub begun_run : (p b : FrameworkSolver) (c : OracleLog) (q : Option Pending) (u v : Units) (halt : Option Halt)
+-- what was run from the solver whose needed axioms are listed was run from the one before
+pub listed_run : (p b : FrameworkSolver) (c : OracleLog) (q : Option Pending) (u v : Units) (halt : Option Halt)
     → b.framework ≡ p.framework → b.solver ≡ p.solver
     → HasRun NoSide 0 (framework_of b.framework) b.solver.log c q u v halt
     → HasRun NoSide 0 (framework_of p.framework) p.solver.log c q u v halt
-begun_run p b c q u v halt framework solver run =
+listed_run p b c q u v halt framework solver run =
     subst (λ (k : AtomState). HasRun NoSide 0 (framework_of p.framework) k.log c q u v halt) solver
     (subst (λ f. HasRun NoSide 0 (framework_of f) b.solver.log c q u v halt) framework run)
 
 -- and so it is with axioms that came to them
-pub begun_gains : (p b : FrameworkSolver) (c : OracleLog) → b.framework ≡ p.framework → b.solver ≡ p.solver
+pub listed_gains : (p b : FrameworkSolver) (c : OracleLog) → b.framework ≡ p.framework → b.solver ≡ p.solver
     → GainsNeeded (framework_of b.framework) b.solver.log c → GainsNeeded (framework_of p.framework) p.solver.log c
-begun_gains p b c framework solver gains =
+listed_gains p b c framework solver gains =
     subst (λ (k : AtomState). GainsNeeded (framework_of p.framework) k.log c) solver
     (subst (λ f. GainsNeeded (framework_of f) b.solver.log c) framework gains)
 
@@ -245,18 +245,20 @@ settled_in_hand log p (Some (Spent count)) h = h
 settled_in_hand log p (Some LogFull) h = tt
 settled_in_hand log p (Some Memory) h = tt
 
-pub not_lost : (halt : Option Halt) (lost : Bool) → lost_by halt lost ≡ false → lost ≡ false
-not_lost None lost so = so
-not_lost (Some (Spent count)) lost so = so
-not_lost (Some LogFull) lost so = so
-not_lost (Some Memory) lost so = absurd (false≢true (sym so))
+pub not_out_of_memory : (halt : Option Halt) (out_of_memory : Bool) → out_of_memory_by halt out_of_memory ≡ false
+    → out_of_memory ≡ false
+not_out_of_memory None out_of_memory so = so
+not_out_of_memory (Some (Spent count)) out_of_memory so = so
+not_out_of_memory (Some LogFull) out_of_memory so = so
+not_out_of_memory (Some Memory) out_of_memory so = absurd (false≢true (sym so))
 
-pub without_memory : (P : Type 0) (halt : Option Halt) (lost : Bool) → lost_by halt lost ≡ false → UnlessMemory halt P
+pub without_memory : (P : Type 0) (halt : Option Halt) (out_of_memory : Bool)
+    → out_of_memory_by halt out_of_memory ≡ false → UnlessMemory halt P
     → P
-without_memory P None lost so h = h
-without_memory P (Some (Spent count)) lost so h = h
-without_memory P (Some LogFull) lost so h = h
-without_memory P (Some Memory) lost so h = absurd (false≢true (sym so))
+without_memory P None out_of_memory so h = h
+without_memory P (Some (Spent count)) out_of_memory so h = h
+without_memory P (Some LogFull) out_of_memory so h = h
+without_memory P (Some Memory) out_of_memory so h = absurd (false≢true (sym so))
 
 -- the same parts, but for the clause in hand
 abbrev pub settled : FrameworkSolver → Option Halt → FrameworkSolver

@@ -7,7 +7,8 @@ use Rattle.semantics.specs.AbaFrameworks.{Aba, AttacksAssumption}
 use Rattle.semantics.specs.Frameworks.{Framework, af, aba, IsNumbered}
 use Rattle.meaning_atoms.specs.declared.aba_axiom.AbaAxiom.TheVariants.{B2, B16}
 use Rattle.meaning_atoms.specs.declared.atom.Atom.{Atom}
-use Rattle.meaning_atoms.specs.declared.atom.Atom.TheVariants.{Member, Live, Attack, Gap, Asm, Con, ConGap, Head, HGap, Body, BGap}
+use Rattle.meaning_atoms.specs.declared.atom.Atom.TheVariants.{Member, Live, Attack, Gap, Asm, Con, ConGap, Head, HGap}
+use Rattle.meaning_atoms.specs.declared.atom.Atom.TheVariants.{Body, BGap}
 use Rattle.meaning_atoms.specs.declared.atom.AtomLit.{AtomLit}
 use Rattle.meaning_atoms.specs.declared.axiom.AfAxiom.TheVariants.{A12, A14}
 use Rattle.meaning_atoms.specs.declared.axiom.AxiomName.{AxiomName}

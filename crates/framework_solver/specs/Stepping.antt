@@ -31,9 +31,9 @@ in_hand_behind halt pending = None
 -- ---- want of memory
 
 -- the flag is raised where memory was refused
-abbrev pub lost_by : Option Halt → Bool → Bool
-lost_by (Some Memory) lost = true
-lost_by halt lost = lost
+abbrev pub out_of_memory_by : Option Halt → Bool → Bool
+out_of_memory_by (Some Memory) out_of_memory = true
+out_of_memory_by halt out_of_memory = out_of_memory
 
 -- ---- axioms that come by a list
 

@@ -19,7 +19,7 @@ ghost use Rattle.framework_solver.specs.Solvers.{AreInForce, IsWhole};
 ghost use Rattle.entry_taking.specs.Taking.{ImportsOrMayNot};
 ghost use Rattle.framework_solver.specs.Updating.{GainsNeeded};
 ghost use Rattle.framework_solver.specs.Readings.{IsTurn, closes_turn};
-ghost use Rattle.framework_solver.specs.Stepping.{EndsInHand, GoesOnBySteps, in_hand_behind, lost_by};
+ghost use Rattle.framework_solver.specs.Stepping.{EndsInHand, GoesOnBySteps, in_hand_behind, out_of_memory_by};
 ghost use Rattle.atom_solver.specs.States.{empty_log};
 
 use crate::kinds::{is_aba, members_of, needed_of};
@@ -135,7 +135,7 @@ impl FrameworkSolver {
     }
 
     /// Works out which axioms the framework needs, and puts them in force.
-    fn begin(&mut self, alloc: Global) -> Result<(), Halt>
+    fn list_and_add(&mut self, alloc: Global) -> Result<(), Halt>
         requires whole { IsWhole self.old }
         ensures whole { IsWhole self.new }
         ensures in_force { OnOk result (AreInForce (framework_of self.new.framework) self.new.solver.log) }
@@ -177,7 +177,7 @@ impl FrameworkSolver {
         if self.is_listed {
             return self.add_missing(alloc);
         }
-        self.begin(alloc)
+        self.list_and_add(alloc)
     }
 
     /// Puts the axioms that the framework needs in force, each of which comes once at most.
@@ -197,12 +197,7 @@ impl FrameworkSolver {
     }
 
     /// Takes an entry in, where it may come in. What is added is steps of the session wherever the entry was given.
-    pub fn import_entry(
-        &mut self,
-        alloc: Global,
-        own: u32,
-        entry: &Entry,
-    ) -> Result<(), Memory>
+    pub fn import_entry(&mut self, alloc: Global, own: u32, entry: &Entry) -> Result<(), Memory>
         requires whole { IsWhole self.old }
         requires shareable { IsShareable entry.now }
         ensures whole { IsWhole self.new }
@@ -388,19 +383,19 @@ impl FrameworkSolver {
 
     /// Behind a call that ended so, forgets the clause in hand unless the budget was spent, and raises the flag where memory
     /// was refused.
-    fn settle(&mut self, halt: Option<Halt>, lost: &mut bool)
+    fn settle(&mut self, halt: Option<Halt>, out_of_memory: &mut bool)
         ensures parts { self.new ≡ record self.old {
           solver = record {
             log = self.old.solver.log;
             pending = in_hand_behind halt self.old.solver.pending;
           };
         } }
-        ensures lost { lost.new ≡ lost_by halt lost.old }
+        ensures out_of_memory { out_of_memory.new ≡ out_of_memory_by halt out_of_memory.old }
     {
         match halt {
             Some(Halt::Spent(_)) => {}
             Some(Halt::Memory) => {
-                *lost = true;
+                *out_of_memory = true;
                 self.solver.take_pending();
             }
             Some(Halt::LogFull) | None => {
@@ -416,7 +411,7 @@ impl FrameworkSolver {
         alloc: Global,
         goals: &[AtomLit],
         budget: &mut Budget,
-        lost: &mut bool,
+        out_of_memory: &mut bool,
     ) -> Result<Found, Halt>
         requires whole { IsWhole self.old }
         requires goals { AreGoals (framework_of self.old.framework) self.old.solver.log.sides goals.now }
@@ -425,13 +420,13 @@ impl FrameworkSolver {
         ensures found { IfOk result (IsFound (framework_of self.old.framework) self.new.solver.log goals.now) }
         ensures run { HasRun NoSide (closes result) (framework_of self.old.framework) self.old.solver.log
             self.new.solver.log self.new.solver.pending budget.old budget.new (halt_of result) }
-        ensures kept { lost.new ≡ false → lost.old ≡ false }
-        ensures steps { lost.new ≡ false → (own : ℕ) → GoesOnBySteps (framework_of self.old.framework)
+        ensures kept { out_of_memory.new ≡ false → out_of_memory.old ≡ false }
+        ensures steps { out_of_memory.new ≡ false → (own : ℕ) → GoesOnBySteps (framework_of self.old.framework)
             own [] self.old.solver.log self.new.solver.log }
         ensures in_hand { LoopInHand self.new.solver.log self.new.solver.pending }
     {
         let end = self.find(alloc, goals, budget);
-        self.settle(halt_in(&end), lost);
+        self.settle(halt_in(&end), out_of_memory);
         end
     }
 
@@ -443,7 +438,7 @@ impl FrameworkSolver {
         side: &[AtomLit],
         from: &NumSet,
         budget: &mut Budget,
-        lost: &mut bool,
+        out_of_memory: &mut bool,
     ) -> Result<AskId, Halt>
         requires whole { IsWhole self.old }
         requires side { IsSide side.now }
@@ -452,13 +447,13 @@ impl FrameworkSolver {
         ensures obliges { IfOk result (Obliges side.now self.old.solver.log self.new.solver.log) }
         ensures run { HasRun (OnlySide side.now from.now) 0 (framework_of self.old.framework) self.old.solver.log
             self.new.solver.log self.new.solver.pending budget.old budget.new (halt_of result) }
-        ensures kept { lost.new ≡ false → lost.old ≡ false }
+        ensures kept { out_of_memory.new ≡ false → out_of_memory.old ≡ false }
         ensures steps { (own : ℕ) → GoesOnBySteps (framework_of self.old.framework) own [] self.old.solver.log
             self.new.solver.log }
         ensures in_hand { LoopInHand self.new.solver.log self.new.solver.pending }
     {
         let end = self.oblige(alloc, side, from, budget);
-        self.settle(halt_in(&end), lost);
+        self.settle(halt_in(&end), out_of_memory);
         end
     }
 }

@@ -31,14 +31,14 @@ returns-in_err-entry-clause-follows g c =
     c.in_err-entry.ensures.follows
 
 pub returns-in_default-clause-all : goal.returns-in_default-clause-all
-returns-in_default-clause-all g c = λ told is.
+returns-in_default-clause-all g c = λ waiting is.
     let none : c.in_ok-entry.field-0 ≡ None = search rules in
     taking_last c.args.own c.args.parts.now c.loop-count.parts (g.T.ClauseTrade.left c.args.trade.now)
     (g.T.ClauseTrade.left c.loop-count.trade) (g.T.ClauseTrade.left c.take.new.self)
     (g.T.ClauseTrade.gave c.args.trade.now) (g.T.ClauseTrade.gave c.loop-count.trade) c.loop-count.count
     c.loop-count.invariant.0
     (subst (λ taken. GivesFirst (g.T.ClauseTrade.left c.loop-count.trade) (Ok taken)
-    (g.T.ClauseTrade.left c.take.new.self)) none c.in_ok-entry.ensures.first) told is
+    (g.T.ClauseTrade.left c.take.new.self)) none c.in_ok-entry.ensures.first) waiting is
 
 pub returns-in_default-clause-steps : goal.returns-in_default-clause-steps
 returns-in_default-clause-steps g c =
@@ -105,8 +105,8 @@ loop-count-preserved g c = (
 )
 
 pub returns-clause-all : goal.returns-clause-all
-returns-clause-all g c = λ told is.
+returns-clause-all g c = λ waiting is.
     taking_most c.args.own c.args.parts.now c.loop-count.parts (g.T.ClauseTrade.left c.args.trade.now)
     (g.T.ClauseTrade.left c.loop-count.trade) (g.T.ClauseTrade.gave c.args.trade.now)
     (g.T.ClauseTrade.gave c.loop-count.trade) c.loop-count.count c.loop-count-test.false c.loop-count.invariant.0
-    told is
+    waiting is

@@ -2,7 +2,8 @@ use Rattle.std.proofs.Common.{◌<◌, ◌∙◌, ap, subst, sym, Err}
 use Rattle.std.specs.Prelude.{Contains}
 use Rattle.edit_rules.specs.Kinds.{framework_of}
 use Rattle.framework_solver.proofs.KindLemmas.{needed_name}
-use Rattle.framework_solver.proofs.Forcing.{gains_halted, taken_halted, taken_more, waiting_is, waiting_there, whole_halted}
+use Rattle.framework_solver.proofs.Forcing.{gains_halted, taken_halted, taken_more, waiting_is, waiting_there}
+use Rattle.framework_solver.proofs.Forcing.{whole_halted}
 use Rattle.framework_solver.proofs.Joining.{halted_any}
 use Rattle.framework_solver.proofs.solver.FrameworkSolver.add_missing.Goals as goal
 

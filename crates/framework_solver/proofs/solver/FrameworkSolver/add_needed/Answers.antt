@@ -11,5 +11,5 @@ returns-then-self-clause-steps c = λ own.
 pub returns-clause-steps : goal.returns-clause-steps
 returns-clause-steps c = λ own.
     let p = c.args.self.now in
-    gains_go_on (framework_of p.framework) own p.solver.log c.begin.new.self.solver.log c.requires.whole.numbered
-    c.begin.ensures.gains
+    gains_go_on (framework_of p.framework) own p.solver.log c.list_and_add.new.self.solver.log c.requires.whole.numbered
+    c.list_and_add.ensures.gains

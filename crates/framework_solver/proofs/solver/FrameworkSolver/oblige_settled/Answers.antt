@@ -5,8 +5,8 @@ use Rattle.oracle_face.specs.Growing.{HasRun, Obliges, OnlySide, halt_of}
 use Rattle.session_log.specs.Ends.{LoopInHand}
 use Rattle.framework_solver.specs.declared.solver.FrameworkSolver.{FrameworkSolver}
 use Rattle.framework_solver.specs.Solvers.{IsWhole}
-use Rattle.framework_solver.specs.Stepping.{GoesOnBySteps, lost_by}
-use Rattle.framework_solver.proofs.Joining.{not_lost, run_settled, settled, settled_in_hand, whole_settled}
+use Rattle.framework_solver.specs.Stepping.{GoesOnBySteps, out_of_memory_by}
+use Rattle.framework_solver.proofs.Joining.{not_out_of_memory, run_settled, settled, settled_in_hand, whole_settled}
 use Rattle.framework_solver.proofs.solver.FrameworkSolver.oblige_settled.Goals as goal
 
 pub returns-clause-whole : goal.returns-clause-whole
@@ -26,7 +26,8 @@ returns-clause-obliges c =
     let p = c.args.self.now in
     let q = c.oblige-end.new.self in
     let is = c.settle.ensures.parts ∙ ap (settled q) c.halt_in.ensures in
-    subst (λ (r : FrameworkSolver). IfOk c.oblige-end.result (Obliges c.args.side.now p.solver.log r.solver.log)) (sym is)
+    subst (λ (r : FrameworkSolver). IfOk c.oblige-end.result (Obliges c.args.side.now p.solver.log r.solver.log)) (sym
+    is)
     c.oblige-end.ensures.obliges
 
 pub returns-clause-run : goal.returns-clause-run
@@ -45,8 +46,9 @@ returns-clause-run c =
 
 pub returns-clause-kept : goal.returns-clause-kept
 returns-clause-kept c = λ so.
-    let flag = sym (c.settle.ensures.lost ∙ ap (λ h. lost_by h c.args.lost.now) c.halt_in.ensures) in
-    not_lost (halt_of c.oblige-end.result) c.args.lost.now (flag ∙ so)
+    let flag = sym (c.settle.ensures.out_of_memory ∙ ap (λ h. out_of_memory_by h c.args.out_of_memory.now)
+    c.halt_in.ensures) in
+    not_out_of_memory (halt_of c.oblige-end.result) c.args.out_of_memory.now (flag ∙ so)
 
 pub returns-clause-steps : goal.returns-clause-steps
 returns-clause-steps c = λ own.

@@ -1,7 +1,7 @@
 use Rattle.std.proofs.Common.{arith}
 use Rattle.oracle_face.specs.Growing.{halt_of}
-use Rattle.framework_solver.proofs.Joining.{begun_gains, begun_run}
-use Rattle.framework_solver.proofs.solver.FrameworkSolver.begin.Goals as goal
+use Rattle.framework_solver.proofs.Joining.{listed_gains, listed_run}
+use Rattle.framework_solver.proofs.solver.FrameworkSolver.list_and_add.Goals as goal
 
 pub add_all-requires-clause-empty : goal.add_all-requires-clause-empty
 add_all-requires-clause-empty c =
@@ -11,17 +11,17 @@ add_all-requires-clause-empty c =
 
 pub returns-then-len-gt0-clause-run : goal.returns-then-len-gt0-clause-run
 returns-then-len-gt0-clause-run c = λ units.
-    begun_run c.args.self.now c.list_needed.new.self c.add_missing.new.self.solver.log
+    listed_run c.args.self.now c.list_needed.new.self c.add_missing.new.self.solver.log
     c.add_missing.new.self.solver.pending units units (halt_of c.add_missing.result)
     c.in_ok-list_needed.ensures.framework c.in_ok-list_needed.ensures.solver (c.add_missing.ensures.run units)
 
 pub returns-clause-run : goal.returns-clause-run
 returns-clause-run c = λ units.
-    begun_run c.args.self.now c.list_needed.new.self c.add_all.new.self.solver.log
+    listed_run c.args.self.now c.list_needed.new.self c.add_all.new.self.solver.log
     c.add_all.new.self.solver.pending units units (halt_of c.add_all.result) c.in_ok-list_needed.ensures.framework
     c.in_ok-list_needed.ensures.solver (c.add_all.ensures.run units)
 
 pub returns-clause-gains : goal.returns-clause-gains
 returns-clause-gains c =
-    begun_gains c.args.self.now c.list_needed.new.self c.add_all.new.self.solver.log
+    listed_gains c.args.self.now c.list_needed.new.self c.add_all.new.self.solver.log
     c.in_ok-list_needed.ensures.framework c.in_ok-list_needed.ensures.solver c.add_all.ensures.gains
