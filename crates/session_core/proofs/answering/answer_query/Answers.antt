@@ -5,7 +5,7 @@ use Rattle.oracle_core.specs.Engines.{EngineState}
 use Rattle.framework_solver.specs.Stepping.{GoesOnBySteps}
 use Rattle.clause_pool.proofs.RowLemmas.{none_yet}
 use Rattle.session_core.proofs.ReplyLemmas.{told_is}
-use Rattle.session_core.proofs.answering.tell.Goals as goal
+use Rattle.session_core.proofs.answering.answer_query.Goals as goal
 
 pub returns-clause-told : goal.returns-clause-told
 returns-clause-told g c =
