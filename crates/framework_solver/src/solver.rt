@@ -37,8 +37,10 @@ use plain_lits::{Budget, Halt};
 use set_lists::NumSet;
 use std::alloc::Global;
 
-/// The framework with its members, the solver, the axioms that the framework needs with the number of those that the
-/// solver has already, and the names of the first steps, by which an axiom comes once at most.
+/// A kept solver for one framework: the framework with its members, the solver over atoms, the axioms that the framework
+/// needs with the number of those that the solver has already, and the names of the first steps, by which an axiom comes
+/// once at most. Each call needs a whole solver (`IsWhole`) and leaves one, whatever it answers. After `Memory` the log may
+/// have some of the call's steps; `LogFull` comes at a full log alone, and `Spent` when a further unit is in hand.
 #[derive(Drop)]
 pub struct FrameworkSolver {
     pub framework: Framework,
@@ -51,7 +53,7 @@ pub struct FrameworkSolver {
 }
 
 impl FrameworkSolver {
-    /// An empty log for at most so many steps.
+    /// The solver of a framework, with an empty log for at most so many steps. No axiom is in the log yet.
     pub fn open(
         alloc: Global,
         framework: Framework,
@@ -250,7 +252,7 @@ impl FrameworkSolver {
         }
     }
 
-    /// The number of a side clause.
+    /// The number of a side clause, which is made if there is none with its literals yet: that is a unit.
     pub fn oblige(
         &mut self,
         alloc: Global,
