@@ -49,7 +49,7 @@ returns-in_err-found-clause-run c =
     let first = c.args.self.now in
     let next = c.turn.new.self in
     halted (framework_of first.framework) first.solver.log next.solver.log next.solver.pending c.args.budget.now
-    c.turn.new.budget c.from_residual.result c.in_err-found.field-0.0 c.from_residual.ensures
+    c.turn.new.budget c.from_residual-in_err-found.result c.in_err-found.field-0.0 c.from_residual-in_err-found.ensures
     (turned_run first c.models.self next c.args.budget.now c.models.budget c.turn.new.budget c.models.invariant
     c.in_err-found.ensures.framework 0 (Some c.in_err-found.field-0.0) c.in_err-found.ensures.run)
 
@@ -81,15 +81,15 @@ returns-in_err-found-clause-steps c =
     let first = c.args.self.now in
     let next = c.turn.new.self in
     handed_on (λ halt. UnlessMemory halt ((own : ℕ) → GoesOnBySteps (framework_of first.framework) own []
-    first.solver.log next.solver.log)) c.from_residual.result c.in_err-found.field-0.0 c.from_residual.ensures
+    first.solver.log next.solver.log)) c.from_residual-in_err-found.result c.in_err-found.field-0.0 c.from_residual-in_err-found.ensures
     (turned_steps first c.models.self next c.args.budget.now c.models.budget c.turn.new.budget c.models.invariant
     c.in_err-found.ensures.framework (Some c.in_err-found.field-0.0) c.in_err-found.ensures.steps)
 
 pub returns-in_err-found-clause-in_hand : goal.returns-in_err-found-clause-in_hand
 returns-in_err-found-clause-in_hand c =
     let next = c.turn.new.self in
-    handed_on (λ halt. EndsInHand halt next.solver.log next.solver.pending) c.from_residual.result
-    c.in_err-found.field-0.0 c.from_residual.ensures c.in_err-found.ensures.in_hand
+    handed_on (λ halt. EndsInHand halt next.solver.log next.solver.pending) c.from_residual-in_err-found.result
+    c.in_err-found.field-0.0 c.from_residual-in_err-found.ensures c.in_err-found.ensures.in_hand
 
 pub returns-in-Some-clause-steps : goal.returns-in-Some-clause-steps
 returns-in-Some-clause-steps c =
