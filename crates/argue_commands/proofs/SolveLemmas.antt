@@ -15,7 +15,7 @@ use Rattle.atom_solver.specs.States.{empty_log}
 use Rattle.oracle_core.specs.Answering.{IsCause, halt_behind}
 use Rattle.oracle_core.specs.Answers.{IsShownBy}
 use Rattle.oracle_core.specs.Engines.{EngineState}
-use Rattle.oracle_core.specs.Stepping.{GoesOnBySteps}
+use Rattle.framework_solver.specs.Stepping.{GoesOnBySteps}
 use Rattle.oracle_core.specs.declared.reply.AnswerStop.{AnswerStop}
 use Rattle.oracle_core.specs.declared.reply.AnswerStop.TheVariants as stop
 use Rattle.oracle_core.specs.declared.reply.Answered.{Answered}

@@ -89,7 +89,7 @@ fn summarized(
 }
 
 /// A transcript with what is counted of it.
-fn told(
+fn with_counts(
     alloc: Global,
     n: u32,
     seed: u32,
@@ -130,5 +130,5 @@ pub fn run_bench<R: Threads + Wait + Sync, P: Pace + Sync>(
 {
     let (framework, script) = bench_input(alloc, n, seed)?;
     let transcript = run_script(rt, alloc, framework, &script, BENCH_BUDGET, pace)?;
-    told(alloc, n, seed, &script, transcript)
+    with_counts(alloc, n, seed, &script, transcript)
 }

@@ -5,7 +5,7 @@ ghost use Rattle.oracle_face.specs.Logs.{is_loop, is_unit, is_work};
 ghost use Rattle.core_logs.specs.Sources.{source_of};
 ghost use Rattle.core_answers.specs.Serving.{counts};
 
-use core_logs::{CoreStep, StepSource};
+use core_logs::{CoreStep, Justification};
 use meaning_atoms::{AbaAxiom, AxiomName};
 
 /// Which steps are counted.
@@ -27,12 +27,12 @@ pub(crate) fn is_loop(name: &AxiomName) -> bool
 }
 
 /// Whether what comes from there may be a unit.
-fn is_work(source: &StepSource) -> bool
+fn is_work(source: &Justification) -> bool
     ensures { result ≡ is_work (source_of source.now) }
 {
     match source {
-        StepSource::Axiom(name) => is_loop(name),
-        StepSource::Side(_) | StepSource::Hints(_) => true,
+        Justification::Axiom(name) => is_loop(name),
+        Justification::Side(_) | Justification::Hints(_) => true,
     }
 }
 
@@ -48,7 +48,7 @@ fn is_counted(what: Count, step: &CoreStep) -> bool
     ensures { result ≡ counts what step.now }
 {
     match what {
-        Count::Sides => matches!(step.source(), StepSource::Side(_)),
+        Count::Sides => matches!(step.source(), Justification::Side(_)),
         Count::Closings => step.closing(),
         Count::Units => is_unit(step),
     }

@@ -3,7 +3,7 @@
 ghost use Rattle.std.specs.Prelude.{◌≡◌, ◌↔◌, false, IfOk, IsTrue};
 ghost use Rattle.core_answers.specs.Parts.{HasMarks, IsOwn, IsWorking};
 
-use core_logs::{CoreStep, StepSource};
+use core_logs::{CoreStep, Justification};
 use lists::Memory;
 use set_lists::NumSet;
 use std::alloc::Global;
@@ -13,8 +13,8 @@ fn is_own(own: &NumSet, step: &CoreStep) -> bool
     ensures { IsTrue result ↔ IsOwn own.now step.now }
 {
     match step.source() {
-        StepSource::Side(number) => own.contains(*number),
-        StepSource::Axiom(_) | StepSource::Hints(_) => true,
+        Justification::Side(number) => own.contains(*number),
+        Justification::Axiom(_) | Justification::Hints(_) => true,
     }
 }
 

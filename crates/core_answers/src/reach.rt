@@ -5,7 +5,7 @@ ghost use Rattle.oracle_face.specs.Logs.{hints_of};
 ghost use Rattle.core_answers.specs.Parts.{HandOn, HandsOn, IsFault, IsMarked, ReachOwn};
 
 use crate::marks::own_marks;
-use core_logs::{CoreStep, StepSource};
+use core_logs::{CoreStep, Justification};
 use lists::Memory;
 use plain_lits::StepId;
 use set_lists::NumSet;
@@ -34,8 +34,8 @@ fn hands_on(marks: &[bool], step: &CoreStep) -> bool
     ensures { IsTrue result ↔ HandsOn marks.now step.now }
 {
     match step.source() {
-        StepSource::Axiom(_) | StepSource::Side(_) => true,
-        StepSource::Hints(hints) => are_marked(marks, hints.as_slice()),
+        Justification::Axiom(_) | Justification::Side(_) => true,
+        Justification::Hints(hints) => are_marked(marks, hints.as_slice()),
     }
 }
 

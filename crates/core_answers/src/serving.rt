@@ -22,7 +22,7 @@ use answer_claims::{SideKind, side_clause};
 use certificate_claims::clause_of_axiom;
 use core_logs::checking::is_new;
 use core_logs::literals::is_same_clause;
-use core_logs::{CoreSide, CoreStep, StepSource};
+use core_logs::{CoreSide, CoreStep, Justification};
 use edit_rules::Framework;
 use iccma_tasks::{Problem, Query, Semantics};
 use lists::Memory;
@@ -64,13 +64,13 @@ fn named_serves(alloc: Global, before: &[CoreStep], name: &AxiomName) -> Result<
 }
 
 /// The same of the axiom that a step comes from, if it comes from one.
-fn loop_serves(alloc: Global, before: &[CoreStep], source: &StepSource) -> Result<bool, Memory>
+fn loop_serves(alloc: Global, before: &[CoreStep], source: &Justification) -> Result<bool, Memory>
     requires { (name : AnAxiomName) → source_of source.now ≡ by_axiom name → IsAxiomName name }
     ensures { IfOk result (λ serves. IsTrue serves ↔ LoopServes before.now (source_of source.now)) }
 {
     match source {
-        StepSource::Axiom(name) => Ok(named_serves(alloc, before, name)?),
-        StepSource::Side(_) | StepSource::Hints(_) => Ok(true),
+        Justification::Axiom(name) => Ok(named_serves(alloc, before, name)?),
+        Justification::Side(_) | Justification::Hints(_) => Ok(true),
     }
 }
 

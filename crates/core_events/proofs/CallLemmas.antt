@@ -16,7 +16,7 @@ use Rattle.session_log.specs.OwnSteps.{IsWanted}
 use Rattle.core_machine.specs.Core.{Core, with_log}
 use Rattle.core_machine.specs.Steps.{IsCalledFor, IsNamedInPool, IsNeededFor, IsStep, learn, take_in}
 use Rattle.core_events.specs.declared.machine.Machine.{Machine}
-use Rattle.core_events.specs.declared.places.Place.{Place}
+use Rattle.core_events.specs.declared.places.IndexedEntry.{IndexedEntry}
 use Rattle.core_events.specs.Machines.{core_of}
 use Rattle.core_events.specs.Naming.{Imports}
 use Rattle.core_events.specs.Needs.{IsNamedAmong, IsNeededAmong}
@@ -96,12 +96,12 @@ module _ (core : Core) (s : ℕ) (name : AxiomName) where
 
 -- ---- the pool
 
-pub named_in_pool : (m : Machine) (b : Bool) (places : List Place) (name : AxiomName) → places ≡ m.pool.items
+pub named_in_pool : (m : Machine) (b : Bool) (places : List IndexedEntry) (name : AxiomName) → places ≡ m.pool.items
     → IsTrue b ↔ IsNamedAmong places name → IsTrue b ↔ IsNamedInPool (core_of m) name
 named_in_pool m b places name e h = (
-  λ t. let w = subst (λ (ps : List Place). IsNamedAmong ps name) e (h.0 t) in
+  λ t. let w = subst (λ (ps : List IndexedEntry). IsNamedAmong ps name) e (h.0 t) in
       record { index = w.index; entry = w.entry; there = w.there; named = w.named },
-  λ w. h.1 (subst (λ (ps : List Place). IsNamedAmong ps name) (sym e)
+  λ w. h.1 (subst (λ (ps : List IndexedEntry). IsNamedAmong ps name) (sym e)
       (record { index = w.index; entry = w.entry; there = w.there; named = w.named })),
 )
 

@@ -13,7 +13,7 @@ use Rattle.edit_history.specs.Entries.{framework_after}
 use Rattle.oracle_face.specs.declared.entry.Entry.{Entry as PoolEntry}
 use Rattle.oracle_face.specs.Needed.{IsNeeded}
 use Rattle.core_logs.proofs.Walked.{IsSome}
-use Rattle.core_events.specs.declared.places.Place.{Place}
+use Rattle.core_events.specs.declared.places.IndexedEntry.{IndexedEntry}
 use Rattle.core_events.specs.Needs.{IsNamedAmong, IsNamedUnder, IsNeededAmong}
 use Rattle.core_events.specs.Places.{pool_of}
 use Rattle.certificate_claims.proofs.SetTests.{passed}
@@ -83,8 +83,8 @@ needed_last f now entries i name b at e none h = (
 -- ---- the pool
 
 -- what stands under an index stands in a place
-placed : (places : List Place) (index : ℕ) (entry : PoolEntry) → pool_of places index ≡ Some entry
-    → IsSome (λ (p : Place). p.index ≡ index) places
+placed : (places : List IndexedEntry) (index : ℕ) (entry : PoolEntry) → pool_of places index ≡ Some entry
+    → IsSome (λ (p : IndexedEntry). p.index ≡ index) places
 placed [] index entry e = absurd (cc)
 placed (place ∷ places) index entry e =
     ⊎_elim
@@ -98,8 +98,9 @@ placed (place ∷ places) index entry e =
     record { item = w.item; there = Contains-tail place places w.item w.there; is = w.is })
     (cases_Bool (index == place.index))
 
-pub named_is : (b : Bool) (places : List Place) (name : AxiomName)
-    → IsTrue b ↔ IsSome (λ (p : Place). IsNamedUnder places name p.index) places → IsTrue b ↔ IsNamedAmong places name
+pub named_is : (b : Bool) (places : List IndexedEntry) (name : AxiomName)
+    → IsTrue b ↔ IsSome (λ (p : IndexedEntry). IsNamedUnder places name p.index) places
+    → IsTrue b ↔ IsNamedAmong places name
 named_is b places name h = (
   λ t. let w = h.0 t in
       record { index = w.item.index; entry = w.is.entry; there = w.is.there; named = w.is.named },

@@ -4,7 +4,7 @@ use Rattle.std.specs.Prelude.{Option, Some, None, if◌then◌else◌}
 use Rattle.std.proofs.lemmas.Bool.{cases_Bool, eqb-true}
 use Rattle.oracle_face.specs.declared.entry.Entry.{Entry}
 use Rattle.core_machine.specs.Core.{put_at}
-use Rattle.core_events.specs.declared.places.Place.{Place}
+use Rattle.core_events.specs.declared.places.IndexedEntry.{IndexedEntry}
 use Rattle.core_events.specs.Places.{pool_of}
 use Rattle.core_events.proofs.Tests.{other_test, same_test}
 use Rattle.certificate_claims.proofs.SetTests.{chosen, passed}
@@ -13,7 +13,7 @@ some_not_none : (entry : Entry) → Some entry ≡ None → ⊥
 some_not_none entry e = absurd (cc)
 
 -- a place more, under an index that nothing stood under
-pub entry_added : (places : List Place) (new : Place) (i : ℕ) → pool_of places new.index ≡ None
+pub entry_added : (places : List IndexedEntry) (new : IndexedEntry) (i : ℕ) → pool_of places new.index ≡ None
     → pool_of (places ++ new ∷ []) i ≡ put_at new.index (Some new.entry) (pool_of places) i
 entry_added [] new i e = refl
 entry_added (place ∷ places) new i e =
@@ -37,7 +37,7 @@ entry_added (place ∷ places) new i e =
     (cases_Bool (i == place.index))
 
 -- what stands under an index is there already
-pub entry_again : (places : List Place) (index : ℕ) (entry : Entry) (i : ℕ) → pool_of places index ≡ Some entry
+pub entry_again : (places : List IndexedEntry) (index : ℕ) (entry : Entry) (i : ℕ) → pool_of places index ≡ Some entry
     → pool_of places i ≡ put_at index (Some entry) (pool_of places) i
 entry_again places index entry i e =
     ⊎_elim

@@ -17,7 +17,7 @@ use Rattle.core_machine.specs.Core.{Core, CoreSession, put_at}
 use Rattle.session_log.specs.Imports.{name_of_step}
 use Rattle.core_machine.specs.Steps.{IsStep, origin_of, share}
 use Rattle.core_events.specs.declared.machine.Machine.{Machine}
-use Rattle.core_events.specs.declared.places.Place.{Place}
+use Rattle.core_events.specs.declared.places.IndexedEntry.{IndexedEntry}
 use Rattle.core_events.specs.declared.seats.MachineSeat.{MachineSeat}
 use Rattle.core_events.specs.Machines.{core_of}
 use Rattle.core_events.specs.Places.{pool_of}
@@ -58,7 +58,7 @@ one_entry s steps number a b ha hb = λ i. record {
 
 -- ---- the pool
 
-pub put_new : (places new : List Place) (index : ℕ) (entry : Entry) → pool_of places index ≡ None
+pub put_new : (places new : List IndexedEntry) (index : ℕ) (entry : Entry) → pool_of places index ≡ None
     → new ≡ places ++ record { index = index; entry = entry } ∷ []
     → pool_of new ≡ put_at index (Some entry) (pool_of places)
 put_new places new index entry none e =
@@ -67,7 +67,7 @@ put_new places new index entry none e =
 some_none : (entry : Entry) → Some entry ≡ None → ⊥
 some_none entry e = absurd (cc)
 
-pub put_again : (places : List Place) (index : ℕ) (entry old : Entry)
+pub put_again : (places : List IndexedEntry) (index : ℕ) (entry old : Entry)
     → (pool_of places index ≡ None) ⊎ (pool_of places index ≡ Some entry) → pool_of places index ≡ Some old
     → pool_of places ≡ put_at index (Some entry) (pool_of places)
 put_again places index entry old may e = ⊎_elim (λ none. absurd (some_none old (sym e ∙ none)))
@@ -90,7 +90,7 @@ not_for core before s k i steps same e none next is =
       origin = is.origin;
     }))
 
-pub not_there : (core : Core) (s k i : ℕ) (places : List Place) (entry : Entry) (b : Bool)
+pub not_there : (core : Core) (s k i : ℕ) (places : List IndexedEntry) (entry : Entry) (b : Bool)
     → pool_of places ≡ core.pool → IsEntryFor s (core.sessions s).log.steps k entry
     → IsTrue b ↔ ((pool_of places i ≡ None) ⊎ (pool_of places i ≡ Some entry)) → b ≡ false → (next : Core)
     → IsStep core (share s k i) next → ⊥
@@ -111,7 +111,7 @@ not_there core s k i places entry b pool here h no_ next is =
 abbrev handed : CoreSession → List ℕ → CoreSession
 handed session shared = record session { shared = shared }
 
-abbrev with_shared : Machine → ℕ → MachineSeat → Vec Place → Vec ℕ → Machine
+abbrev with_shared : Machine → ℕ → MachineSeat → Vec IndexedEntry → Vec ℕ → Machine
 with_shared m index seat pool shared = record m {
   pool = pool;
   seats = with_item m.seats index (record {
@@ -125,7 +125,8 @@ with_shared m index seat pool shared = record m {
   });
 }
 
-pub shares : (m : Machine) (s k i index : ℕ) (seat : MachineSeat) (pool : Vec Place) (shared : Vec ℕ) (entry : Entry)
+pub shares : (m : Machine) (s k i index : ℕ) (seat : MachineSeat) (pool : Vec IndexedEntry) (shared : Vec ℕ)
+    (entry : Entry)
     → IsSeatAt m.seats.items s index → seat ≡ get_or m.seats.items index seat
     → IsEntryFor s ((core_of m).sessions s).log.steps k entry
     → ((pool_of m.pool.items i ≡ None) ⊎ (pool_of m.pool.items i ≡ Some entry))
@@ -162,7 +163,7 @@ shares m s k i index seat pool shared entry at read made place e long =
     }
 
 -- the pool is the same
-pub same_pool : (m : Machine) (pool : Vec Place) → pool_of pool.items ≡ pool_of m.pool.items
+pub same_pool : (m : Machine) (pool : Vec IndexedEntry) → pool_of pool.items ≡ pool_of m.pool.items
     → core_of (record m { pool = pool }) ≡ core_of m
 same_pool m pool e = λ j. record (core_of m) { pool = e j }
 

@@ -7,7 +7,7 @@ use Rattle.edit_history.specs.Entries.{framework_after}
 use Rattle.oracle_face.specs.declared.entry.Entry.{Entry as PoolEntry}
 use Rattle.oracle_face.specs.Needed.{IsNeeded}
 use Rattle.session_log.specs.OwnSteps.{NamesAxiom}
-use Rattle.core_events.specs.declared.places.Place.{Place}
+use Rattle.core_events.specs.declared.places.IndexedEntry.{IndexedEntry}
 use Rattle.core_events.specs.Places.{pool_of}
 
 -- the axiom is needed on the framework after some of the entries
@@ -17,14 +17,14 @@ pub record IsNeededAmong (opening : Framework) (entries : List HistoryEntry) (na
   pub needed : IsNeeded (framework_after opening (take count entries)) name
 
 -- some entry of the pool names it
-pub record IsNamedAmong (places : List Place) (name : AxiomName) : Type 0 where
+pub record IsNamedAmong (places : List IndexedEntry) (name : AxiomName) : Type 0 where
   pub index : ℕ
   pub entry : PoolEntry
   pub there : pool_of places index ≡ Some entry
   pub named : NamesAxiom name entry.origin
 
 -- the entry under the index does
-pub record IsNamedUnder (places : List Place) (name : AxiomName) (index : ℕ) : Type 0 where
+pub record IsNamedUnder (places : List IndexedEntry) (name : AxiomName) (index : ℕ) : Type 0 where
   pub entry : PoolEntry
   pub there : pool_of places index ≡ Some entry
   pub named : NamesAxiom name entry.origin

@@ -13,7 +13,7 @@ ghost use Rattle.core_events.specs.Stops.{Comes};
 use crate::log_events::{derive, keep_side, take_axiom};
 use crate::naming::import;
 use crate::needs::{front, is_axiom_of, is_named, is_needed_among};
-use crate::places::{Place, find_entry};
+use crate::places::{IndexedEntry, find_entry};
 use crate::seats::{MachineSeat, seat_of};
 use crate::stop::StepStop;
 use certificate_claims::clause_of_axiom;
@@ -35,7 +35,7 @@ pub struct Machine {
     pub(crate) log_limit: u64,
     pub(crate) history: Vec<HistoryEntry>,
     pub(crate) turns: u64,
-    pub(crate) pool: Vec<Place>,
+    pub(crate) pool: Vec<IndexedEntry>,
     pub(crate) seats: Vec<MachineSeat>,
 }
 

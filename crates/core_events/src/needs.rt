@@ -11,7 +11,7 @@ ghost use Rattle.edit_history.specs.Entries.{framework_after};
 ghost use Rattle.session_log.specs.OwnSteps.{NamesAxiom};
 ghost use Rattle.core_events.specs.Needs.{IsNamedAmong, IsNamedUnder, IsNeededAmong};
 
-use crate::places::{Place, find_entry};
+use crate::places::{IndexedEntry, find_entry};
 use aba_encoding::needed as needed_of_aba;
 use af_encoding::needed as needed_of_af;
 use core_logs::equality::axioms_are_equal;
@@ -143,7 +143,7 @@ fn names_axiom(origin: &EntryOrigin, name: &AxiomName) -> bool
 }
 
 /// Whether the entry under an index names an axiom.
-fn is_named_at(places: &[Place], index: u64, name: &AxiomName) -> bool
+fn is_named_at(places: &[IndexedEntry], index: u64, name: &AxiomName) -> bool
     ensures { IsTrue result ↔ IsNamedUnder places.now name.now index }
 {
     match find_entry(places, index) {
@@ -153,7 +153,7 @@ fn is_named_at(places: &[Place], index: u64, name: &AxiomName) -> bool
 }
 
 /// Whether some entry of the pool names an axiom.
-pub(crate) fn is_named(places: &[Place], name: &AxiomName) -> bool
+pub(crate) fn is_named(places: &[IndexedEntry], name: &AxiomName) -> bool
     ensures { IsTrue result ↔ IsNamedAmong places.now name.now }
 {
     places

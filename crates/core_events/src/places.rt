@@ -7,13 +7,13 @@ use oracle_face::Entry;
 
 /// An entry under its index.
 #[derive(Drop)]
-pub struct Place {
+pub struct IndexedEntry {
     pub(crate) index: u64,
     pub(crate) entry: Entry,
 }
 
 /// The entry under an index.
-pub(crate) fn find_entry(places: &[Place], index: u64) -> Option<&Entry>
+pub(crate) fn find_entry(places: &[IndexedEntry], index: u64) -> Option<&Entry>
     ensures some { IfSome result (λ entry. pool_of places.now index ≡ Some entry.now) }
     ensures none { IfNone result (pool_of places.now index ≡ None) }
 {

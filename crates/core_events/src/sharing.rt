@@ -12,12 +12,12 @@ ghost use Rattle.core_events.specs.Sharing.{EntryForSome, IsEntryFor, OriginOfSo
 ghost use Rattle.core_events.specs.Stops.{Comes};
 
 use crate::machine::Machine;
-use crate::places::{Place, find_entry};
+use crate::places::{IndexedEntry, find_entry};
 use crate::stop::StepStop;
 use core_logs::equality::entries_are_equal;
 use core_logs::literals::{asks_nothing, copy_clause};
 use core_logs::steps::{find_step, is_number};
-use core_logs::{CoreStep, StepSource};
+use core_logs::{CoreStep, Justification};
 use lists::{Items, Memory};
 use oracle_face::{Entry, EntryName, EntryOrigin, HintName};
 use plain_lits::StepId;
@@ -31,8 +31,8 @@ fn name_of(alloc: Global, session: u32, step: &CoreStep, number: StepId) -> Resu
         return Ok(HintName::Entry(name));
     }
     match step.source() {
-        StepSource::Axiom(name) => Ok(HintName::Axiom(name.copy(alloc)?)),
-        StepSource::Side(_) | StepSource::Hints(_) => {
+        Justification::Axiom(name) => Ok(HintName::Axiom(name.copy(alloc)?)),
+        Justification::Side(_) | Justification::Hints(_) => {
             Ok(HintName::Entry(EntryName {
                 session,
                 step: number,
@@ -80,14 +80,14 @@ fn origin_of(
     alloc: Global,
     session: u32,
     steps: &[CoreStep],
-    source: &StepSource,
+    source: &Justification,
 ) -> Result<Option<EntryOrigin>, Memory>
     ensures { IfOk result (OriginOfSome session steps.now (source_of source.now)) }
 {
     match source {
-        StepSource::Side(_) => Ok(None),
-        StepSource::Axiom(name) => Ok(Some(EntryOrigin::Axiom(name.copy(alloc)?))),
-        StepSource::Hints(hints) => {
+        Justification::Side(_) => Ok(None),
+        Justification::Axiom(name) => Ok(Some(EntryOrigin::Axiom(name.copy(alloc)?))),
+        Justification::Hints(hints) => {
             let names = hint_names(alloc, session, steps, hints.as_slice())?;
             Ok(Some(EntryOrigin::Hints(names)))
         }
@@ -138,7 +138,7 @@ fn entry_for(
 }
 
 /// Whether nothing stands under an index, or the same entry.
-fn may_stand(places: &[Place], index: u64, entry: &Entry) -> bool
+fn may_stand(places: &[IndexedEntry], index: u64, entry: &Entry) -> bool
     ensures { IsTrue result
         ↔ ((pool_of places.now index ≡ None) ⊎ (pool_of places.now index ≡ Some entry.now)) }
 {
@@ -149,23 +149,23 @@ fn may_stand(places: &[Place], index: u64, entry: &Entry) -> bool
 }
 
 /// Puts an entry under an index under which nothing stands, or the same entry. After `Memory` the pool is as before.
-fn put_entry(places: &mut Vec<Place>, index: u64, entry: Entry) -> Result<(), Memory>
+fn put_entry(places: &mut Vec<IndexedEntry>, index: u64, entry: Entry) -> Result<(), Memory>
     requires { (pool_of places.old.items index ≡ None) ⊎ (pool_of places.old.items index ≡ Some entry) }
     ensures ok { OnOk result (pool_of places.new.items ≡ put_at index (Some entry) (pool_of places.old.items)) }
     ensures err { OnErr result (pool_of places.new.items ≡ pool_of places.old.items) }
 {
     let Some(_) = find_entry(places.as_slice(), index) else {
-        return add_place(places, index, entry);
+        return add_indexed(places, index, entry);
     };
     Ok(())
 }
 
-/// Adds a place behind the others. After `Memory` they are as before.
-fn add_place(places: &mut Vec<Place>, index: u64, entry: Entry) -> Result<(), Memory>
+/// Adds an entry under its index after the others. After `Memory` they are as before.
+fn add_indexed(places: &mut Vec<IndexedEntry>, index: u64, entry: Entry) -> Result<(), Memory>
     ensures ok { OnOk result (places.new.items ≡ places.old.items ++ record { index = index; entry = entry } ∷ []) }
     ensures err { OnErr result (places.new.items ≡ places.old.items) }
 {
-    places.push(Place { index, entry })?;
+    places.push(IndexedEntry { index, entry })?;
     Ok(())
 }
 

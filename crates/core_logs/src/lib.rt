@@ -13,4 +13,4 @@ pub mod taking;
 
 pub use log::CoreLog;
 pub use named_log::NamedLog;
-pub use steps::{CoreSide, CoreStep, StepSource};
+pub use steps::{CoreSide, CoreStep, Justification};

@@ -78,7 +78,7 @@ pub fn asks_nothing(clause: &[AtomLit]) -> bool
 }
 
 /// Whether a literal says what a side clause may say of an argument.
-fn tells(literal: &AtomLit) -> bool
+fn says_of_argument(literal: &AtomLit) -> bool
     ensures { IsTrue result ↔ Tells IsArgument literal.now.atom literal.now.positive }
 {
     match (literal.atom, literal.positive) {
@@ -91,10 +91,10 @@ fn tells(literal: &AtomLit) -> bool
 }
 
 /// Whether each literal does.
-fn all_tell(clause: &[AtomLit]) -> bool
+fn all_say_of_argument(clause: &[AtomLit]) -> bool
     ensures { IsTrue result ↔ TellAll clause.now }
 {
-    clause.iter().all(|literal| tells(literal))
+    clause.iter().all(|literal| says_of_argument(literal))
 }
 
 fn affirms(literal: &AtomLit) -> bool
@@ -166,7 +166,7 @@ fn is_of_one_kind(clause: &[AtomLit]) -> bool
 pub fn is_side(side: &[AtomLit]) -> bool
     ensures { IsTrue result ↔ IsSide side.now }
 {
-    all_tell(side) && is_one_sided(side) && is_of_one_kind(side)
+    all_say_of_argument(side) && is_one_sided(side) && is_of_one_kind(side)
 }
 
 /// The same literals again.

@@ -6,7 +6,7 @@ ghost use Rattle.core_logs.specs.Tests.{HasAxiom, HasEntry, IsClauseOf, IsFromEn
 
 use crate::equality::{axioms_are_equal, names_are_equal};
 use crate::literals::is_same_clause;
-use crate::steps::{CoreStep, StepSource};
+use crate::steps::{CoreStep, Justification};
 use certificate_claims::clause_of_axiom;
 use lists::Memory;
 use meaning_atoms::{AbaAxiom, AtomLit, AxiomName};
@@ -18,8 +18,8 @@ pub fn is_of_axiom(step: &CoreStep, name: &AxiomName) -> bool
     ensures { IsTrue result ↔ IsOfAxiom step.now name.now }
 {
     match step.source() {
-        StepSource::Axiom(other) => axioms_are_equal(other, name),
-        StepSource::Side(_) | StepSource::Hints(_) => false,
+        Justification::Axiom(other) => axioms_are_equal(other, name),
+        Justification::Side(_) | Justification::Hints(_) => false,
     }
 }
 

@@ -11,9 +11,9 @@ use plain_lits::StepId;
 use set_lists::NumSet;
 use std::marker::Model;
 
-/// What a step comes from: an axiom, a side clause by its number, or the steps that it follows from.
+/// What justifies a step: an axiom, a side clause by its number, or the steps that it follows from.
 #[derive(Drop)]
-pub enum StepSource {
+pub enum Justification {
     Axiom(AxiomName),
     Side(u32),
     Hints(Items<StepId>),
@@ -23,7 +23,7 @@ pub enum StepSource {
 #[derive(Drop)]
 pub struct CoreStep {
     clause: Items<AtomLit>,
-    source: StepSource,
+    source: Justification,
     imported: Option<EntryName>,
     closing: bool,
 }
@@ -62,7 +62,7 @@ impl CoreStep {
     /// search.
     pub fn new(
         clause: Items<AtomLit>,
-        source: StepSource,
+        source: Justification,
         imported: Option<EntryName>,
         closing: bool,
     ) -> CoreStep
@@ -88,8 +88,8 @@ impl CoreStep {
         self.clause.as_slice()
     }
 
-    /// What the step comes from.
-    pub fn source(&self) -> &StepSource
+    /// What justifies the step.
+    pub fn source(&self) -> &Justification
         ensures { source_of result.now ≡ self.now.source }
     {
         &self.source

@@ -8,7 +8,7 @@ ghost use Rattle.core_logs.specs.Tests.{HasSideLike, IsSideLike};
 
 use crate::literals::{copy_clause, is_same_clause, opposite};
 use crate::log::CoreLog;
-use crate::steps::{CoreSide, CoreStep, StepSource};
+use crate::steps::{CoreSide, CoreStep, Justification};
 use lists::{Items, Memory};
 use meaning_atoms::{AtomLit, AxiomName};
 use oracle_face::{AskId, EntryName};
@@ -31,7 +31,7 @@ impl CoreLog {
         ensures err { OnErr result (self.new ≡ self.old) }
     {
         let literals = copy_clause(alloc, clause)?;
-        let source = StepSource::Axiom(name.copy(alloc)?);
+        let source = Justification::Axiom(name.copy(alloc)?);
         self.push_step(CoreStep::new(literals, source, imported, false))
     }
 
@@ -50,7 +50,7 @@ impl CoreLog {
         ensures err { OnErr result (self.new ≡ self.old) }
     {
         let literals = copy_clause(alloc, clause)?;
-        let source = StepSource::Hints(Items::from_vec(Vec::from_slice(alloc, hints)?));
+        let source = Justification::Hints(Items::from_vec(Vec::from_slice(alloc, hints)?));
         self.push_step(CoreStep::new(literals, source, imported, closing))
     }
 
@@ -71,7 +71,7 @@ impl CoreLog {
         let number = next_number(self.sides().len())?;
         let clause = guarded_by(alloc, number, literals)?;
         let side = CoreSide::new(copy_clause(alloc, literals)?, set.copy(alloc)?);
-        let step = CoreStep::new(clause, StepSource::Side(number), None, false);
+        let step = CoreStep::new(clause, Justification::Side(number), None, false);
         self.push_side(side, step)
     }
 }

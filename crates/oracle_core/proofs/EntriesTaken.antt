@@ -15,42 +15,35 @@ use Rattle.oracle_face.specs.Logs.{OracleLog}
 use Rattle.oracle_face.specs.Trades.{GivesFirst, GivesFrom, GivesMore}
 use Rattle.oracle_face.proofs.GrowingLemmas.{grows_as, grows_same, run_joined, run_none}
 use Rattle.entry_taking.specs.Taking.{ImportsOrMayNot}
-use Rattle.oracle_core.specs.declared.parts.EngineParts.{EngineParts}
+use Rattle.framework_solver.specs.declared.solver.FrameworkSolver.{FrameworkSolver}
 use Rattle.oracle_core.specs.declared.trading.TheConstants.{MAX_TAKEN}
-use Rattle.oracle_core.specs.Engines.{AreInForce, IsWhole}
-use Rattle.oracle_core.specs.Stepping.{GoesOnBySteps}
-use Rattle.oracle_core.specs.SteppingLaws.{goes_on_joined, goes_on_none, goes_on_still}
+use Rattle.framework_solver.specs.Solvers.{AreInForce, IsWhole}
+use Rattle.framework_solver.specs.Stepping.{GoesOnBySteps}
+use Rattle.framework_solver.specs.SteppingLaws.{goes_on_joined, goes_on_none, goes_on_still}
 use Rattle.oracle_core.specs.Trading.{AnySide, TakesAll, TakesFrom}
 use Rattle.oracle_core.specs.TradingLaws.{prefix_joined, prefix_none, takes_joined}
-use Rattle.oracle_core.proofs.Forcing.{force_grown}
-
-pub comes_at : (r : Result (Unit {0}) Memory) (kind : Bool) (f : Framework) (own : ℕ) (entry : Entry)
-    (old new : OracleLog) → is_assumption_based f ≡ kind
-    → OnOk r ((f : Framework) → is_assumption_based f ≡ kind → ImportsOrMayNot f own entry old new)
-    → OnOk r (ImportsOrMayNot f own entry old new)
-comes_at (Ok u) kind f own entry old new same comes = comes f same
-comes_at (Err e) kind f own entry old new same comes = tt
+use Rattle.framework_solver.proofs.Forcing.{force_grown}
 
 pub any_side : (a b : OracleLog) → Grows NoSide a b → Grows AnySide a b
 any_side a b h = grows_as NoSide AnySide a b (λ literals set made. tt) h
 
--- so many of the entries that a trade told were looked at
-pub record TakesSome (f : Framework) (own : ℕ) (told : List Entry) (left : Option (List Entry)) (old new : OracleLog)
+-- so many of the entries that a trade has waiting were looked at
+pub record TakesSome (f : Framework) (own : ℕ) (waiting : List Entry) (left : Option (List Entry)) (old new : OracleLog)
     (count : ℕ) : Type 0 where
-  pub from : TakesFrom f own told left old new
+  pub from : TakesFrom f own waiting left old new
   pub many : length from.given ≡ count
 
-some_none : (f : Framework) (own : ℕ) (told : List Entry) (left : Option (List Entry)) (a : OracleLog)
-    → left ≡ Some told → TakesSome f own told left a a 0
-some_none f own told left a is = record {
-  from = record { given = []; rest = told; told_is = refl; left_is = is; taken = grows_same AnySide a };
+some_none : (f : Framework) (own : ℕ) (waiting : List Entry) (left : Option (List Entry)) (a : OracleLog)
+    → left ≡ Some waiting → TakesSome f own waiting left a a 0
+some_none f own waiting left a is = record {
+  from = record { given = []; rest = waiting; waiting_is = refl; left_is = is; taken = grows_same AnySide a };
   many = refl;
 }
 
-some_more : (f : Framework) (own : ℕ) (told : List Entry) (left new : Option (List Entry)) (entry : Entry)
-    (a b c : OracleLog) (count : ℕ) → TakesSome f own told left a b count → GivesFirst left (Ok (Some entry)) new
-    → AreInForce f b → Grows AnySide b c → ImportsOrMayNot f own entry b c → TakesSome f own told new a c (count + 1)
-some_more f own told left new entry a b c count h gives force grows comes =
+some_more : (f : Framework) (own : ℕ) (waiting : List Entry) (left new : Option (List Entry)) (entry : Entry)
+    (a b c : OracleLog) (count : ℕ) → TakesSome f own waiting left a b count → GivesFirst left (Ok (Some entry)) new
+    → AreInForce f b → Grows AnySide b c → ImportsOrMayNot f own entry b c → TakesSome f own waiting new a c (count + 1)
+some_more f own waiting left new entry a b c count h gives force grows comes =
     let from = h.from in
     let first : GivesFrom from.rest (Ok (Some entry)) new =
     subst (λ l. GivesFirst l (Ok (Some entry)) new) from.left_is gives in
@@ -58,7 +51,7 @@ some_more f own told left new entry a b c count h gives force grows comes =
       from = record {
         given = from.given ++ entry ∷ [];
         rest = first.0;
-        told_is = from.told_is ∙ (ap (λ xs. from.given ++ xs) first.1
+        waiting_is = from.waiting_is ∙ (ap (λ xs. from.given ++ xs) first.1
             ∙ sym (append_assoc from.given (entry ∷ []) first.0));
         left_is = first.2;
         taken = takes_joined f own from.given (entry ∷ []) a b c from.taken (
@@ -77,16 +70,17 @@ some_more f own told left new entry a b c count h gives force grows comes =
     }
 
 -- the trade gave nothing
-some_last : (f : Framework) (own : ℕ) (told : List Entry) (left new : Option (List Entry)) (a b : OracleLog)
-    (count : ℕ) → TakesSome f own told left a b count → GivesFirst left (Ok None) new → TakesAll f own told new a b
-some_last f own told left new a b count h gives =
+some_last : (f : Framework) (own : ℕ) (waiting : List Entry) (left new : Option (List Entry)) (a b : OracleLog)
+    (count : ℕ) → TakesSome f own waiting left a b count → GivesFirst left (Ok None) new → TakesAll f own waiting new a
+    b
+some_last f own waiting left new a b count h gives =
     let from = h.from in
     let nothing : GivesFrom from.rest (Ok None) new = subst (λ l. GivesFirst l (Ok None) new) from.left_is gives in
     record {
       from = record {
         given = from.given;
         rest = [];
-        told_is = from.told_is ∙ ap (λ xs. from.given ++ xs) nothing.0;
+        waiting_is = from.waiting_is ∙ ap (λ xs. from.given ++ xs) nothing.0;
         left_is = nothing.1;
         taken = from.taken;
       };
@@ -94,23 +88,23 @@ some_last f own told left new a b count h gives =
     }
 
 -- as many were taken as may be
-some_most : (f : Framework) (own : ℕ) (told : List Entry) (left : Option (List Entry)) (a b : OracleLog)
-    (count : ℕ) → MAX_TAKEN ≤ count → TakesSome f own told left a b count → TakesAll f own told left a b
-some_most f own told left a b count most h =
+some_most : (f : Framework) (own : ℕ) (waiting : List Entry) (left : Option (List Entry)) (a b : OracleLog)
+    (count : ℕ) → MAX_TAKEN ≤ count → TakesSome f own waiting left a b count → TakesAll f own waiting left a b
+some_most f own waiting left a b count most h =
     let from = h.from in
     record {
       from = from;
       emptied = inr (
         from.rest,
         from.left_is,
-        omega (arith, h.many, ap length from.told_is, length-append from.given from.rest),
+        omega (arith, h.many, ap length from.waiting_is, length-append from.given from.rest),
       );
     }
 
 -- ---- the loop
 
 -- how far the loop over the entries has come
-pub record IsTaking (own : ℕ) (first now : EngineParts) (left_first left : Option (List Entry))
+pub record IsTaking (own : ℕ) (first now : FrameworkSolver) (left_first left : Option (List Entry))
     (gave_first gave : List Entry) (count : ℕ) : Type 0 where
   pub whole : IsWhole now
   pub framework : now.framework ≡ first.framework
@@ -119,10 +113,10 @@ pub record IsTaking (own : ℕ) (first now : EngineParts) (left_first left : Opt
   pub in_force : AreInForce (framework_of first.framework) now.solver.log
   pub more : IsPrefix gave_first gave
   pub steps : GoesOnBySteps (framework_of first.framework) own gave first.solver.log now.solver.log
-  pub given : (told : List Entry) → left_first ≡ Some told
-      → TakesSome (framework_of first.framework) own told left first.solver.log now.solver.log count
+  pub given : (waiting : List Entry) → left_first ≡ Some waiting
+      → TakesSome (framework_of first.framework) own waiting left first.solver.log now.solver.log count
 
-pub taking_none : (own : ℕ) (p : EngineParts) (left : Option (List Entry)) (gave : List Entry) → IsWhole p
+pub taking_none : (own : ℕ) (p : FrameworkSolver) (left : Option (List Entry)) (gave : List Entry) → IsWhole p
     → AreInForce (framework_of p.framework) p.solver.log → IsTaking own p p left left gave gave 0
 taking_none own p left gave whole force = record {
   whole = whole;
@@ -131,10 +125,10 @@ taking_none own p left gave whole force = record {
   in_force = force;
   more = prefix_none gave;
   steps = goes_on_none (framework_of p.framework) own gave p.solver.log;
-  given = λ told is. some_none (framework_of p.framework) own told left p.solver.log is;
+  given = λ waiting is. some_none (framework_of p.framework) own waiting left p.solver.log is;
 }
 
-pub run_more : (first now after : EngineParts) → now.framework ≡ first.framework
+pub run_more : (first now after : FrameworkSolver) → now.framework ≡ first.framework
     → ((units : Units) → HasRun NoSide 0 (framework_of first.framework) first.solver.log now.solver.log
     now.solver.pending units units None)
     → ((units : Units) → HasRun NoSide 0 (framework_of now.framework) now.solver.log after.solver.log
@@ -163,7 +157,7 @@ gave_more first gave new entry longer gives =
     prefix_joined first gave new longer (gave_longer gave new entry gives)
 
 -- the steps before it, and those by which it was taken in
-pub steps_more : (own : ℕ) (first now after : EngineParts) (gave new : List Entry) (entry : Entry)
+pub steps_more : (own : ℕ) (first now after : FrameworkSolver) (gave new : List Entry) (entry : Entry)
     → GivesMore gave (Ok (Some entry)) new → now.framework ≡ first.framework
     → GoesOnBySteps (framework_of first.framework) own gave first.solver.log now.solver.log
     → ((given : List Entry) → Contains given entry
@@ -176,7 +170,7 @@ steps_more own first now after gave new entry gives framework steps next =
     (goes_on_still f own gave new first.solver.log now.solver.log (gave_longer gave new entry gives) steps)
     (subst (λ g. GoesOnBySteps g own new now.solver.log after.solver.log) (ap framework_of framework) (next new there))
 
-pub taking_more : (own : ℕ) (first now after : EngineParts) (left_first left new : Option (List Entry))
+pub taking_more : (own : ℕ) (first now after : FrameworkSolver) (left_first left new : Option (List Entry))
     (gave_first gave gave_new : List Entry) (entry : Entry) (count : ℕ)
     → IsTaking own first now left_first left gave_first gave count → GivesFirst left (Ok (Some entry)) new
     → GivesMore gave (Ok (Some entry)) gave_new → IsWhole after → after.framework ≡ now.framework
@@ -197,23 +191,26 @@ taking_more own first now after left_first left new gave_first gave gave_new ent
       in_force = force_grown NoSide f now.solver.log after.solver.log grows h.in_force;
       more = gave_more gave_first gave gave_new entry h.more gives_more;
       steps = steps_more own first now after gave gave_new entry gives_more h.framework h.steps steps;
-      given = λ told is. some_more f own told left new entry first.solver.log now.solver.log after.solver.log count
-          (h.given told is) gives h.in_force (any_side now.solver.log after.solver.log grows)
+      given = λ waiting is. some_more f own waiting left new entry first.solver.log now.solver.log after.solver.log
+      count
+          (h.given waiting is) gives h.in_force (any_side now.solver.log after.solver.log grows)
           (subst (λ g. ImportsOrMayNot g own entry now.solver.log after.solver.log) (ap framework_of h.framework)
           comes);
     }
 
-pub taking_last : (own : ℕ) (first now : EngineParts) (left_first left new : Option (List Entry))
+pub taking_last : (own : ℕ) (first now : FrameworkSolver) (left_first left new : Option (List Entry))
     (gave_first gave : List Entry) (count : ℕ) → IsTaking own first now left_first left gave_first gave count
-    → GivesFirst left (Ok None) new → (told : List Entry) → left_first ≡ Some told
-    → TakesAll (framework_of first.framework) own told new first.solver.log now.solver.log
-taking_last own first now left_first left new gave_first gave count h gives told is =
-    some_last (framework_of first.framework) own told left new first.solver.log now.solver.log count (h.given told is)
+    → GivesFirst left (Ok None) new → (waiting : List Entry) → left_first ≡ Some waiting
+    → TakesAll (framework_of first.framework) own waiting new first.solver.log now.solver.log
+taking_last own first now left_first left new gave_first gave count h gives waiting is =
+    some_last (framework_of first.framework) own waiting left new first.solver.log now.solver.log count (h.given waiting
+    is)
     gives
 
-pub taking_most : (own : ℕ) (first now : EngineParts) (left_first left : Option (List Entry))
+pub taking_most : (own : ℕ) (first now : FrameworkSolver) (left_first left : Option (List Entry))
     (gave_first gave : List Entry) (count : ℕ) → MAX_TAKEN ≤ count
-    → IsTaking own first now left_first left gave_first gave count → (told : List Entry) → left_first ≡ Some told
-    → TakesAll (framework_of first.framework) own told left first.solver.log now.solver.log
-taking_most own first now left_first left gave_first gave count most h told is =
-    some_most (framework_of first.framework) own told left first.solver.log now.solver.log count most (h.given told is)
+    → IsTaking own first now left_first left gave_first gave count → (waiting : List Entry) → left_first ≡ Some waiting
+    → TakesAll (framework_of first.framework) own waiting left first.solver.log now.solver.log
+taking_most own first now left_first left gave_first gave count most h waiting is =
+    some_most (framework_of first.framework) own waiting left first.solver.log now.solver.log count most (h.given
+    waiting is)

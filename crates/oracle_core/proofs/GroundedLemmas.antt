@@ -1,5 +1,6 @@
 -- What the grounded set shows.
-use Rattle.std.proofs.Common.{◌≡◌, ℕ, ◌<◌, zero, suc, Bool, true, false, List, [], ◌∷◌, length, refl, sym, ap, subst, arith, Option, Some, None, true≢false}
+use Rattle.std.proofs.Common.{◌≡◌, ℕ, ◌<◌, zero, suc, Bool, true, false, List, [], ◌∷◌, length, refl, sym, ap, subst}
+use Rattle.std.proofs.Common.{arith, Option, Some, None, true≢false}
 use Rattle.std.specs.Prelude.{◌↔◌, IsTrue, if◌then◌else◌, slice_index_or}
 use Rattle.std.proofs.lemmas.List.{get_or_default}
 use Rattle.std.proofs.lemmas.List.Elements.{All-nil, All-cons}
@@ -9,7 +10,8 @@ use Rattle.iccma_tasks.specs.declared.answer.Answer.TheVariants.{Yes, No, Sets}
 use Rattle.iccma_tasks.specs.declared.task.Problem.{Problem}
 use Rattle.iccma_tasks.specs.declared.task.Problem.TheVariants.{Credulous, Sceptical, SomeExtension, AllExtensions}
 use Rattle.iccma_tasks.specs.declared.task.Semantics.{Semantics}
-use Rattle.iccma_tasks.specs.declared.task.Semantics.TheVariants.{Complete, Grounded, Preferred, Stable, SemiStable, Ideal, Stage}
+use Rattle.iccma_tasks.specs.declared.task.Semantics.TheVariants.{Complete, Grounded, Preferred, Stable, SemiStable}
+use Rattle.iccma_tasks.specs.declared.task.Semantics.TheVariants.{Ideal, Stage}
 use Rattle.iccma_tasks.specs.declared.task.Task.{Task}
 use Rattle.certificate_claims.specs.declared.certificate.Refutation.{Refutation}
 use Rattle.iccma_tasks.specs.Tasks.{Asked, FitsTask, task_of}

@@ -1,11 +1,5 @@
-pub mod EngineKinds
-pub mod GroundedLemmas
-pub mod Forcing
 pub mod EntriesTaken
-pub mod Finding
-pub mod GoingOn
-pub mod Joining
+pub mod GroundedLemmas
 pub mod OfferLemmas
 pub mod TradeLemmas
-pub mod UpdateLemmas
 pub mod Writing

@@ -1,8 +1,10 @@
 -- What goes to others of a log.
-use Rattle.std.proofs.Common.{◌≡◌, ◌≢◌, inl, inr, ℕ, ◌+◌, ◌<◌, ◌≤◌, List, [], ◌∷◌, ◌++◌, length, take, get_or, ap, sym, subst, ◌∙◌, refl, arith, ⊎_elim}
+use Rattle.std.proofs.Common.{◌≡◌, ◌≢◌, inl, inr, ℕ, ◌+◌, ◌<◌, ◌≤◌, List, [], ◌∷◌, ◌++◌, length, take, get_or, ap, sym}
+use Rattle.std.proofs.Common.{subst, ◌∙◌, refl, arith, ⊎_elim}
 use Rattle.std.specs.Prelude.{All}
 use Rattle.std.proofs.lemmas.Bool.{cases_lt}
-use Rattle.std.proofs.lemmas.List.{get_or_append_left, get_or_push, get_or-take, get_or_default, length_push, length-take-le}
+use Rattle.std.proofs.lemmas.List.{get_or_append_left, get_or_push, get_or-take, get_or_default, length_push}
+use Rattle.std.proofs.lemmas.List.{length-take-le}
 use Rattle.semantics.specs.Frameworks.{Framework}
 use Rattle.meaning_atoms.specs.Atoms.{IsLit}
 use Rattle.meaning_atoms.specs.Literals.{AsksNothing}
@@ -16,7 +18,8 @@ use Rattle.oracle_face.specs.Entries.{IsShareable}
 use Rattle.oracle_face.specs.Logs.{OracleLog, LogStep, IsNumberOf, step_at}
 use Rattle.session_log.proofs.StepWorlds.{step_shared}
 use Rattle.atom_solver.specs.States.{IsGuardedLog}
-use Rattle.oracle_face.specs.declared.step_source.StepSource.TheVariants.{Axiom as OfAxiom, Entry as FromEntry, Hints as ByHints}
+use Rattle.oracle_face.specs.declared.step_source.StepSource.TheVariants.{Axiom as OfAxiom, Entry as FromEntry}
+use Rattle.oracle_face.specs.declared.step_source.StepSource.TheVariants.{Hints as ByHints}
 use Rattle.session_log.specs.Imports.{name_by_source, name_in_log}
 use Rattle.oracle_core.specs.Sharing.{AreNamesOf, CallsAny, IsEntryOf, IsNamedAs}
 

@@ -1,5 +1,6 @@
 -- What calls of an engine leave of a trade and of the log, one after the other.
-use Rattle.std.proofs.Common.{◌≡◌, ℕ, ◌+◌, ◌*◌, Bool, true, false, List, [], ◌∷◌, ◌++◌, length, ap, sym, subst, ◌∙◌, arith, inl, inr, ⊎_elim}
+use Rattle.std.proofs.Common.{◌≡◌, ℕ, ◌+◌, ◌*◌, Bool, true, false, List, [], ◌∷◌, ◌++◌, length, ap, sym, subst, ◌∙◌}
+use Rattle.std.proofs.Common.{arith, inl, inr, ⊎_elim}
 use Rattle.std.specs.Prelude.{◌≢◌, Option, Some, None, Result, Ok, Err, OnOk, IsErr, IsErrAnd, is_err}
 use mathlib.Core.List.{IsPrefix}
 use Rattle.lists.specs.declared.memory.Memory.{Memory as OfMemory}
@@ -17,73 +18,79 @@ use Rattle.iccma_tasks.specs.Tasks.{Asked}
 use Rattle.session_log.specs.Ends.{LoopInHand, MadeFor}
 use Rattle.oracle_face.proofs.GrowingLemmas.{grows_as, run_as, run_joined}
 use Rattle.oracle_core.specs.Engines.{EngineState, forgotten}
-use Rattle.oracle_core.specs.Stepping.{GoesOnBySteps, ServesInHand}
+use Rattle.framework_solver.specs.Stepping.{GoesOnBySteps}
+use Rattle.oracle_core.specs.InHand.{ServesInHand}
 use Rattle.oracle_core.specs.Trading.{AnySide, IsEmptied, TakesAll, TakesFrom, Trades}
-use Rattle.oracle_core.specs.SteppingLaws.{goes_on_alone}
+use Rattle.framework_solver.specs.SteppingLaws.{goes_on_alone}
 use Rattle.oracle_core.specs.TradingLaws.{from_none, prefix_none}
 use Rattle.oracle_core.proofs.EntriesTaken.{any_side}
 
 -- a call that the trade has no part in
 pub called_trades : (P : Making) (a b : EngineState) (left : Option (List Entry)) (gave : List Entry)
-    (lost lost_after : Bool) → b.number ≡ a.number → b.framework ≡ a.framework → Grows P a.log b.log
-    → (lost_after ≡ false → lost ≡ false) → (lost_after ≡ false → GoesOnBySteps a.framework a.number [] a.log b.log)
-    → Trades a b left left gave gave lost lost_after
-called_trades P a b left gave lost lost_after number framework grows kept steps =
+    (out_of_memory refused_after : Bool) → b.number ≡ a.number → b.framework ≡ a.framework → Grows P a.log b.log
+    → (refused_after ≡ false → out_of_memory ≡ false) → (refused_after ≡ false → GoesOnBySteps a.framework a.number []
+    a.log b.log)
+    → Trades a b left left gave gave out_of_memory refused_after
+called_trades P a b left gave out_of_memory refused_after number framework grows kept steps =
     let any = grows_as P AnySide a.log b.log (λ literals set made. tt) grows in
     record {
       number = number;
       framework = framework;
       grows = any;
       kept = kept;
-      taken = λ so told is. from_none a.framework a.number told left a.log b.log is any;
+      taken = λ so waiting is. from_none a.framework a.number waiting left a.log b.log is any;
       gave = prefix_none gave;
       stepped = λ so. goes_on_alone a.framework a.number gave a.log b.log (steps so);
     }
 
 -- a call that leaves what the trade has left to give, and gives nothing
 pub offered_trades : (P : Making) (a b : EngineState) (left later : Option (List Entry)) (gave gave_later : List Entry)
-    (lost lost_after : Bool) → later ≡ left → gave_later ≡ gave → b.number ≡ a.number → b.framework ≡ a.framework
-    → Grows P a.log b.log → (lost_after ≡ false → lost ≡ false)
-    → (lost_after ≡ false → GoesOnBySteps a.framework a.number [] a.log b.log)
-    → Trades a b left later gave gave_later lost lost_after
-offered_trades P a b left later gave gave_later lost lost_after same no_more number framework grows kept steps =
-    subst (λ l. Trades a b left l gave gave_later lost lost_after) (sym same)
-    (subst (λ entries. Trades a b left left gave entries lost lost_after) (sym no_more)
-    (called_trades P a b left gave lost lost_after number framework grows kept steps))
+    (out_of_memory refused_after : Bool) → later ≡ left → gave_later ≡ gave → b.number ≡ a.number
+    → b.framework ≡ a.framework
+    → Grows P a.log b.log → (refused_after ≡ false → out_of_memory ≡ false)
+    → (refused_after ≡ false → GoesOnBySteps a.framework a.number [] a.log b.log)
+    → Trades a b left later gave gave_later out_of_memory refused_after
+offered_trades P a b left later gave gave_later out_of_memory refused_after same no_more number framework grows kept
+    steps =
+    subst (λ l. Trades a b left l gave gave_later out_of_memory refused_after) (sym same)
+    (subst (λ entries. Trades a b left left gave entries out_of_memory refused_after) (sym no_more)
+    (called_trades P a b left gave out_of_memory refused_after number framework grows kept steps))
 
 -- the axioms came
-pub forced_trades : (a b : EngineState) (left : Option (List Entry)) (gave : List Entry) (lost : Bool)
+pub forced_trades : (a b : EngineState) (left : Option (List Entry)) (gave : List Entry) (out_of_memory : Bool)
     → b.number ≡ a.number → b.framework ≡ a.framework → Grows NoSide a.log b.log
-    → GoesOnBySteps a.framework a.number [] a.log b.log → Trades a b left left gave gave lost lost
-forced_trades a b left gave lost number framework grows steps =
-    called_trades NoSide a b left gave lost lost number framework grows (λ so. so) (λ so. steps)
+    → GoesOnBySteps a.framework a.number [] a.log b.log → Trades a b left left gave gave out_of_memory out_of_memory
+forced_trades a b left gave out_of_memory number framework grows steps =
+    called_trades NoSide a b left gave out_of_memory out_of_memory number framework grows (λ so. so) (λ so. steps)
 
 -- the trade gave what it has
-pub all_trades : (a b : EngineState) (left new : Option (List Entry)) (gave gave_new : List Entry) (lost : Bool)
+pub all_trades : (a b : EngineState) (left new : Option (List Entry)) (gave gave_new : List Entry)
+    (out_of_memory : Bool)
     → b.number ≡ a.number → b.framework ≡ a.framework → Grows NoSide a.log b.log → IsPrefix gave gave_new
     → GoesOnBySteps a.framework a.number gave_new a.log b.log
-    → ((told : List Entry) → left ≡ Some told → TakesAll a.framework a.number told new a.log b.log)
-    → Trades a b left new gave gave_new lost lost
-all_trades a b left new gave gave_new lost number framework grows more steps all = record {
+    → ((waiting : List Entry) → left ≡ Some waiting → TakesAll a.framework a.number waiting new a.log b.log)
+    → Trades a b left new gave gave_new out_of_memory out_of_memory
+all_trades a b left new gave gave_new out_of_memory number framework grows more steps all = record {
   number = number;
   framework = framework;
   grows = any_side a.log b.log grows;
   kept = λ so. so;
-  taken = λ so told is. (all told is).from;
+  taken = λ so waiting is. (all waiting is).from;
   gave = more;
   stepped = λ so. steps;
 }
 
 -- memory was refused
-pub lost_trades : (a b : EngineState) (left new : Option (List Entry)) (gave gave_new : List Entry) (lost : Bool)
+pub trades_out_of_memory : (a b : EngineState) (left new : Option (List Entry)) (gave gave_new : List Entry)
+    (out_of_memory : Bool)
     → b.number ≡ a.number → b.framework ≡ a.framework → Grows NoSide a.log b.log → IsPrefix gave gave_new
-    → Trades a b left new gave gave_new lost true
-lost_trades a b left new gave gave_new lost number framework grows more = record {
+    → Trades a b left new gave gave_new out_of_memory true
+trades_out_of_memory a b left new gave gave_new out_of_memory number framework grows more = record {
   number = number;
   framework = framework;
   grows = any_side a.log b.log grows;
   kept = λ so. absurd (false≢true (sym so));
-  taken = λ so told is. absurd (false≢true (sym so));
+  taken = λ so waiting is. absurd (false≢true (sym so));
   gave = more;
   stepped = λ so. absurd (false≢true (sym so));
 }
@@ -103,26 +110,27 @@ rest_none : (given rest : List Entry) → [] ≡ given ++ rest → rest ≡ []
 rest_none [] rest is = sym is
 rest_none (entry ∷ given) rest is = let e = ap length is in absurd (omega arith)
 
-pub emptied_later : (f : Framework) (own : ℕ) (told : List Entry) (left later : Option (List Entry)) (b c : OracleLog)
-    → IsEmptied told left → ((rest : List Entry) → left ≡ Some rest → TakesFrom f own rest later b c)
-    → IsEmptied told later
-emptied_later f own told left later b c emptied then =
+pub emptied_later : (f : Framework) (own : ℕ) (waiting : List Entry) (left later : Option (List Entry)) (b
+    c : OracleLog)
+    → IsEmptied waiting left → ((rest : List Entry) → left ≡ Some rest → TakesFrom f own rest later b c)
+    → IsEmptied waiting later
+emptied_later f own waiting left later b c emptied then =
     ⊎_elim
     (λ none.
     let t = then [] none in
-    inl (t.left_is ∙ ap (λ xs. Some xs) (rest_none t.given t.rest t.told_is)))
+    inl (t.left_is ∙ ap (λ xs. Some xs) (rest_none t.given t.rest t.waiting_is)))
     (λ some.
     let t = then some.0 some.1 in
     let few = some.2 in
-    inr (t.rest, t.left_is, omega (arith, ap length t.told_is, length-append t.given t.rest)))
+    inr (t.rest, t.left_is, omega (arith, ap length t.waiting_is, length-append t.given t.rest)))
     emptied
 
 -- ---- runs
 
 -- memory was refused behind what was run
-pub run_lost : (P : Making) (most : ℕ) (f : Framework) (a b : OracleLog) (p : Option Pending) (u v : Units)
+pub run_out_of_memory : (P : Making) (most : ℕ) (f : Framework) (a b : OracleLog) (p : Option Pending) (u v : Units)
     (halt : Option Halt) → HasRun P most f a b p u v halt → HasRun P most f a b p u v (Some Memory)
-run_lost P most f a b p u v halt run =
+run_out_of_memory P most f a b p u v halt run =
     record { grows = run.grows; limit = run.limit; works = tt; closing = tt; stop = tt }
 
 -- a call before a search that made side clauses for a query
@@ -131,7 +139,8 @@ pub searched : (f g : Framework) (asked : Asked) (a b c : OracleLog) (p q : Opti
     → HasRun (MadeFor g asked) (2 * length c.sides + 2) g b c q u v halt
     → HasRun (MadeFor f asked) (2 * length c.sides + 2) f a c q u v halt
 searched f g asked a b c p q u v halt same first second =
-    run_joined NoSide (MadeFor f asked) (MadeFor f asked) 0 (2 * length c.sides + 2) (2 * length c.sides + 2) f a b c p q
+    run_joined NoSide (MadeFor f asked) (MadeFor f asked) 0 (2 * length c.sides + 2) (2 * length c.sides + 2) f a b c p
+    q
     u u v halt (λ literals set h. absurd h) (λ literals set h. h) (omega arith) first
     (subst (λ h. HasRun (MadeFor h asked) (2 * length c.sides + 2) h b c q u v halt) same second)
 
@@ -183,9 +192,9 @@ run_forgotten f a b p (Some Memory) run units =
     record { grows = h.grows; limit = h.limit; works = tt; closing = tt; stop = tt }
 
 pub trades_forgotten : (a b : EngineState) (left later : Option (List Entry)) (gave gave_later : List Entry)
-    (lost lost_after : Bool) → Trades a b left later gave gave_later lost lost_after
-    → Trades a (forgotten b) left later gave gave_later lost lost_after
-trades_forgotten a b left later gave gave_later lost lost_after h = record {
+    (out_of_memory refused_after : Bool) → Trades a b left later gave gave_later out_of_memory refused_after
+    → Trades a (forgotten b) left later gave gave_later out_of_memory refused_after
+trades_forgotten a b left later gave gave_later out_of_memory refused_after h = record {
   number = h.number;
   framework = h.framework;
   grows = h.grows;

@@ -8,8 +8,8 @@ use Rattle.oracle_face.specs.Growing.{Grows}
 use Rattle.oracle_face.specs.Logs.{OracleLog}
 use Rattle.oracle_face.proofs.GrowingLemmas.{grows_joined, grows_same}
 use Rattle.oracle_core.specs.Engines.{EngineState}
-use Rattle.oracle_core.specs.Stepping.{GoesOnBySteps}
-use Rattle.oracle_core.specs.SteppingLaws.{goes_on_joined, goes_on_none, goes_on_still}
+use Rattle.framework_solver.specs.Stepping.{GoesOnBySteps}
+use Rattle.framework_solver.specs.SteppingLaws.{goes_on_joined, goes_on_none, goes_on_still}
 use Rattle.oracle_core.specs.Trading.{AnySide, TakesFrom, TakesIn, Trades}
 
 pub goes_on : (a b c : OracleLog) → Grows AnySide a b → Grows AnySide b c → Grows AnySide a c
@@ -38,24 +38,25 @@ takes_joined f own [] more a b c h k = takes_after f own more a b c h k
 takes_joined f own (entry ∷ entries) more a b c h k =
     (h.0, h.1, h.2, takes_joined f own entries more h.1 b c h.3 k)
 
-pub from_joined : (f : Framework) (own : ℕ) (told : List Entry) (left later : Option (List Entry)) (a b c : OracleLog)
-    → TakesFrom f own told left a b → ((rest : List Entry) → left ≡ Some rest → TakesFrom f own rest later b c)
-    → TakesFrom f own told later a c
-from_joined f own told left later a b c first then =
+pub from_joined : (f : Framework) (own : ℕ) (waiting : List Entry) (left later : Option (List Entry)) (a b
+    c : OracleLog)
+    → TakesFrom f own waiting left a b → ((rest : List Entry) → left ≡ Some rest → TakesFrom f own rest later b c)
+    → TakesFrom f own waiting later a c
+from_joined f own waiting left later a b c first then =
     let second = then first.rest first.left_is in
     record {
       given = first.given ++ second.given;
       rest = second.rest;
-      told_is = first.told_is ∙ (ap (λ xs. first.given ++ xs) second.told_is
+      waiting_is = first.waiting_is ∙ (ap (λ xs. first.given ++ xs) second.waiting_is
           ∙ sym (append_assoc first.given second.given second.rest));
       left_is = second.left_is;
       taken = takes_joined f own first.given second.given a b c first.taken second.taken;
     }
 
-pub from_none : (f : Framework) (own : ℕ) (told : List Entry) (left : Option (List Entry)) (a b : OracleLog)
-    → left ≡ Some told → Grows AnySide a b → TakesFrom f own told left a b
-from_none f own told left a b is grows =
-    record { given = []; rest = told; told_is = refl; left_is = is; taken = grows }
+pub from_none : (f : Framework) (own : ℕ) (waiting : List Entry) (left : Option (List Entry)) (a b : OracleLog)
+    → left ≡ Some waiting → Grows AnySide a b → TakesFrom f own waiting left a b
+from_none f own waiting left a b is grows =
+    record { given = []; rest = waiting; waiting_is = refl; left_is = is; taken = grows }
 
 -- ---- two calls, one after the other
 
@@ -66,29 +67,30 @@ pub prefix_joined : (a b c : List Entry) → IsPrefix a b → IsPrefix b c → I
 prefix_joined a b c h k =
     (h.0 ++ k.0, sym (append_assoc a h.0 k.0) ∙ (ap (λ xs. xs ++ k.0) h.1 ∙ k.1))
 
-pub trades_none : (e : EngineState) (left : Option (List Entry)) (gave : List Entry) (lost : Bool)
-    → Trades e e left left gave gave lost lost
-trades_none e left gave lost = record {
+pub trades_none : (e : EngineState) (left : Option (List Entry)) (gave : List Entry) (out_of_memory : Bool)
+    → Trades e e left left gave gave out_of_memory out_of_memory
+trades_none e left gave out_of_memory = record {
   number = refl;
   framework = refl;
   grows = grows_same AnySide e.log;
   kept = λ so. so;
-  taken = λ so told is. from_none e.framework e.number told left e.log e.log is (grows_same AnySide e.log);
+  taken = λ so waiting is. from_none e.framework e.number waiting left e.log e.log is (grows_same AnySide e.log);
   gave = prefix_none gave;
   stepped = λ so. goes_on_none e.framework e.number gave e.log;
 }
 
 pub trades_joined : (a b c : EngineState) (left_a left_b left_c : Option (List Entry))
-    (gave_a gave_b gave_c : List Entry) (lost_a lost_b lost_c : Bool)
-    → Trades a b left_a left_b gave_a gave_b lost_a lost_b → Trades b c left_b left_c gave_b gave_c lost_b lost_c
-    → Trades a c left_a left_c gave_a gave_c lost_a lost_c
-trades_joined a b c left_a left_b left_c gave_a gave_b gave_c lost_a lost_b lost_c h k = record {
+    (gave_a gave_b gave_c : List Entry) (refused_a refused_b refused_c : Bool)
+    → Trades a b left_a left_b gave_a gave_b refused_a refused_b → Trades b c left_b left_c gave_b gave_c refused_b
+    refused_c
+    → Trades a c left_a left_c gave_a gave_c refused_a refused_c
+trades_joined a b c left_a left_b left_c gave_a gave_b gave_c refused_a refused_b refused_c h k = record {
   number = k.number ∙ h.number;
   framework = k.framework ∙ h.framework;
   grows = goes_on a.log b.log c.log h.grows k.grows;
   kept = λ so. h.kept (k.kept so);
-  taken = λ so told is. from_joined a.framework a.number told left_b left_c a.log b.log c.log
-      (h.taken (k.kept so) told is)
+  taken = λ so waiting is. from_joined a.framework a.number waiting left_b left_c a.log b.log c.log
+      (h.taken (k.kept so) waiting is)
       (λ rest is_rest. subst (λ f. TakesFrom f a.number rest left_c b.log c.log) h.framework
       (subst (λ n. TakesFrom b.framework n rest left_c b.log c.log) h.number (k.taken so rest is_rest)));
   gave = prefix_joined gave_a gave_b gave_c h.gave k.gave;

@@ -9,7 +9,7 @@ ghost use Rattle.oracle_face.specs.declared.entry.Entry.{Entry as AnEntry};
 ghost use Rattle.session_log.specs.Ends.{IsShownBy as IsShownByLog, LoopInHand, MadeFor, is_by_grounded};
 ghost use Rattle.query_answers.specs.Answers.{IsEvidence, IsOutcome};
 ghost use Rattle.oracle_core.specs.Answers.{IsShownBy};
-ghost use Rattle.oracle_core.specs.Stepping.{GoesOnBySteps};
+ghost use Rattle.framework_solver.specs.Stepping.{GoesOnBySteps};
 ghost use Rattle.oracle_core.specs.Trading.{IsEmptied, TakesFrom};
 ghost use Rattle.oracle_core.specs.Answering.{IsCause, NeedsSearch, halt_behind};
 
@@ -101,21 +101,21 @@ impl Engine {
             → GoesOnBySteps self.old.framework self.old.number (T.gave trade.new) self.old.log self.new.log }
         ensures follows { T.follows trade.old trade.new }
         ensures in_hand { LoopInHand self.new.log self.new.pending }
-        ensures trade { result ≢ Err Halt.Memory → (told : List AnEntry) → T.left trade.old ≡ Some told
-            → TakesFrom self.old.framework self.old.number told (T.left trade.new) self.old.log self.new.log }
-        ensures emptied { OnOk result ((told : List AnEntry) → T.left trade.old ≡ Some told
-            → IsEmptied told (T.left trade.new)) }
+        ensures trade { result ≢ Err Halt.Memory → (waiting : List AnEntry) → T.left trade.old ≡ Some waiting
+            → TakesFrom self.old.framework self.old.number waiting (T.left trade.new) self.old.log self.new.log }
+        ensures emptied { OnOk result ((waiting : List AnEntry) → T.left trade.old ≡ Some waiting
+            → IsEmptied waiting (T.left trade.new)) }
     {
-        let mut lost = false;
-        self.prepare(alloc, trade, &mut lost)?;
+        let mut out_of_memory = false;
+        self.prepare(alloc, trade, &mut out_of_memory)?;
         let mut trading = Trading {
             engine: self,
             trade,
-            ready: true,
-            lost,
+            has_imported: true,
+            out_of_memory,
         };
         let end = answer(alloc, &mut trading, budget, query, limit as usize);
-        if trading.lost {
+        if trading.out_of_memory {
             return Err(Halt::Memory);
         }
         end
@@ -145,10 +145,10 @@ impl Engine {
             → GoesOnBySteps self.old.framework self.old.number (T.gave trade.new) self.old.log self.new.log }
         ensures follows { T.follows trade.old trade.new }
         ensures in_hand { LoopInHand self.new.log self.new.pending }
-        ensures trade { result ≢ Err AnswerStop.Memory → (told : List AnEntry) → T.left trade.old ≡ Some told
-            → TakesFrom self.old.framework self.old.number told (T.left trade.new) self.old.log self.new.log }
-        ensures emptied { OnOk result ((told : List AnEntry) → T.left trade.old ≡ Some told
-            → IsEmptied told (T.left trade.new)) }
+        ensures trade { result ≢ Err AnswerStop.Memory → (waiting : List AnEntry) → T.left trade.old ≡ Some waiting
+            → TakesFrom self.old.framework self.old.number waiting (T.left trade.new) self.old.log self.new.log }
+        ensures emptied { OnOk result ((waiting : List AnEntry) → T.left trade.old ≡ Some waiting
+            → IsEmptied waiting (T.left trade.new)) }
     {
         match self.search(alloc, query, budget, limit, trade)? {
             SearchOutcome::Shown(evidence) => {
@@ -193,10 +193,10 @@ impl Engine {
         ensures follows { T.follows trade.old trade.new }
         ensures in_hand { (count : ℕ) → result ≡ Err (AnswerStop.Spent count)
             → LoopInHand self.new.log self.new.pending }
-        ensures trade { result ≢ Err AnswerStop.Memory → (told : List AnEntry) → T.left trade.old ≡ Some told
-            → TakesFrom self.old.framework self.old.number told (T.left trade.new) self.old.log self.new.log }
+        ensures trade { result ≢ Err AnswerStop.Memory → (waiting : List AnEntry) → T.left trade.old ≡ Some waiting
+            → TakesFrom self.old.framework self.old.number waiting (T.left trade.new) self.old.log self.new.log }
         ensures emptied { OnOk result (is_by_grounded query.now.task.problem query.now.task.semantics ≡ false
-            → (told : List AnEntry) → T.left trade.old ≡ Some told → IsEmptied told (T.left trade.new)) }
+            → (waiting : List AnEntry) → T.left trade.old ≡ Some waiting → IsEmptied waiting (T.left trade.new)) }
     {
         query_fits(&self.parts.framework, query)?;
         if let Some(answered) = answer_by_grounded(alloc, &self.parts.framework, query)? {

@@ -9,10 +9,10 @@ ghost use Rattle.oracle_face.specs.Logs.{OracleLog};
 ghost use Rattle.session_log.specs.Ends as ends;
 ghost use Rattle.session_log.specs.Ends.{IsShownBy as IsShownByLog};
 
-use crate::engine::accepts;
 use crate::reply::Answered;
 use certificate_claims::Certificate;
 use edit_rules::Framework;
+use framework_solver::kinds::accepts;
 use iccma_tasks::{Answer, Problem, Query, Semantics, Task};
 use lists::{Items, Memory};
 use set_lists::NumSet;

@@ -1,16 +1,17 @@
 //! The engine: an oracle over a kept solver.
 
-ghost use Rattle.std.specs.Prelude.{◌≡◌, ◌↔◌, ◌≤◌, IfOk, IsTrue, None, length};
-ghost use Rattle.semantics.specs.AbaFrameworks.{IsInTheory};
-ghost use Rattle.certificate_claims.specs.Rights.{Accepts};
+ghost use Rattle.std.specs.Prelude.{◌≡◌, ◌≢◌, ◌⊎◌, ◌≤◌, Err, IfOk, None, OnOk, length};
 ghost use Rattle.edit_rules.specs.Kinds.{framework_of};
+ghost use Rattle.edit_rules.specs.Replay.{IsTaken, after_edit};
 ghost use Rattle.hinted_log.specs.declared.log.TheConstants.{MAX_STEPS};
 ghost use Rattle.atom_solver.specs.States.{empty_log};
+ghost use Rattle.framework_solver.specs.Solvers.{AreInForce};
+ghost use Rattle.framework_solver.specs.Updating.{GainsNeeded};
 
-use crate::parts::{EngineParts, admissible_part_of, is_aba, range_of};
-use aba_notions::AbaPlain;
 use certificate_making::ReadLog;
-use edit_rules::Framework;
+use edit_rules::{Effect, Framework};
+use framework_solver::kinds::{accepts, admissible_part_of, is_aba, range_of};
+use framework_solver::{FrameworkSolver, UpdateStop};
 use hinted_log::MAX_STEPS;
 use lists::{Items, Memory};
 use meaning_atoms::AtomLit;
@@ -25,7 +26,7 @@ use std::marker::Model;
 /// was spent.
 pub struct Engine {
     pub(crate) number: u32,
-    pub(crate) parts: EngineParts,
+    pub(crate) parts: FrameworkSolver,
     /// How many steps need not be offered any more: a trade kept them, or they don't go to others.
     pub(crate) offered: usize,
 }
@@ -42,7 +43,8 @@ impl Drop for Engine {
 }
 
 impl Model for Engine {
-    ghost use Rattle.oracle_core.specs.Engines.{EngineState, IsWhole, engine_state};
+    ghost use Rattle.framework_solver.specs.Solvers.{IsWhole};
+    ghost use Rattle.oracle_core.specs.Engines.{EngineState, engine_state};
 
     ghost Value = { EngineState };
 
@@ -66,7 +68,7 @@ impl Engine {
         ensures log { IfOk result (λ e. e.log ≡ empty_log log_limit) }
         ensures pending { IfOk result (λ e. e.pending ≡ None) }
     {
-        let parts = EngineParts::open(alloc, framework, log_limit)?;
+        let parts = FrameworkSolver::open(alloc, framework, log_limit)?;
         Ok(Engine {
             number,
             parts,
@@ -94,29 +96,30 @@ impl Engine {
     {
         self.parts.solver.pending(alloc)
     }
-}
 
-/// Whether a set of a framework accepts a number: it has the argument, or derives the atom.
-pub(crate) fn accepts(
-    alloc: Global,
-    framework: &Framework,
-    goal: u32,
-    set: &NumSet,
-) -> Result<bool, Memory>
-    ensures { IfOk result (λ accepts. IsTrue accepts ↔ Accepts (framework_of framework.now) set.now goal) }
-{
-    match framework {
-        Framework::Af(_) => Ok(set.contains(goal)),
-        Framework::Aba(plain) => derives(alloc, plain, goal, set),
+    /// Follows an edit of the framework: `effect` is what the edit does to the engine's framework. Nothing is withdrawn
+    /// from the log. It gains the axioms that the framework needs behind the edit and that no step is yet; so an engine
+    /// that had all of those before takes time for what the edit changed, beside the framework's flat arrays: an attack comes
+    /// or goes in place, where what stands behind it moves by one, and every other edit is made in a copy. The first update
+    /// of an engine that was asked nothing works out all axioms that the framework needs.
+    ///
+    /// `LogFull` comes only at a full log: the framework is the edited one then, and the next answer that takes steps
+    /// adds the axioms that lack, or stops so. After `Memory` either nothing has changed, or the framework is the edited
+    /// one and some axioms may lack, which the next answer adds.
+    pub fn update(&mut self, alloc: Global, effect: &Effect) -> Result<(), UpdateStop>
+        requires { IsTaken self.old.framework effect.now.edit effect.now }
+        ensures framework { result ≢ Err UpdateStop.Memory
+            → self.new.framework ≡ after_edit self.old.framework effect.now.edit }
+        ensures stays { (self.new ≡ self.old)
+            ⊎ (self.new.framework ≡ after_edit self.old.framework effect.now.edit) }
+        ensures in_force { OnOk result (AreInForce self.new.framework self.new.log) }
+        ensures full { result ≡ Err UpdateStop.LogFull → length self.new.log.steps ≡ self.new.log.limit }
+        ensures gains { GainsNeeded self.new.framework self.old.log self.new.log }
+        ensures number { self.new.number ≡ self.old.number }
+        ensures pending { self.new.pending ≡ self.old.pending }
+    {
+        self.parts.update(alloc, effect)
     }
-}
-
-/// Whether a set of assumptions derives an atom.
-fn derives(alloc: Global, plain: &AbaPlain, atom: u32, set: &NumSet) -> Result<bool, Memory>
-    ensures { IfOk result (λ derives. IsTrue derives ↔ IsInTheory plain.now set.now atom) }
-{
-    let theory = plain.closure_of(alloc, set)?;
-    Ok(theory.contains(atom))
 }
 
 impl Oracle for Engine {

@@ -4,14 +4,10 @@
 mod answering;
 mod by_grounded;
 pub mod engine;
-pub(crate) mod parts;
-mod reading;
 pub mod reply;
 pub mod sharing;
 pub(crate) mod trading;
-pub mod updating;
 
 pub use by_grounded::{answer_by_grounded, is_by_grounded};
 pub use engine::Engine;
 pub use reply::{AnswerStop, Answered};
-pub use updating::UpdateStop;

@@ -4,12 +4,12 @@ ghost use Rattle.std.specs.Prelude.{◌≡◌, ℕ, List, IfOk, IfSome, IsTrue, 
 ghost use Rattle.oracle_face.specs.StepSources.{imported_of, source_of};
 ghost use Rattle.oracle_face.specs.declared.step_source.StepSource.TheVariants.{Entry as OfEntry};
 ghost use Rattle.oracle_face.specs.Logs.{IsNumberOf, by_hints, step_at};
-ghost use Rattle.oracle_core.specs.Engines.{IsWhole};
+ghost use Rattle.framework_solver.specs.Solvers.{IsWhole};
 ghost use Rattle.oracle_core.specs.Sharing.{AreNamesOf, CallsAny, IsEntryOf, IsNamedAs, IsShareableStep};
 
 use crate::engine::Engine;
-use crate::parts::EngineParts;
 use atom_solver::AtomSolver;
+use framework_solver::FrameworkSolver;
 use lists::{Items, Memory};
 use oracle_face::{ClauseTrade, Entry, EntryName, EntryOrigin, HintName, StepSource};
 use plain_lits::StepId;
@@ -125,7 +125,7 @@ fn shared_entry(
 fn offer_step<T: ClauseTrade>(
     alloc: Global,
     own: u32,
-    parts: &EngineParts,
+    parts: &FrameworkSolver,
     step: StepId,
     trade: &mut T,
 ) -> bool
@@ -147,10 +147,10 @@ fn offer_step<T: ClauseTrade>(
 
 /// Offers a trade the steps behind the first so many, up to one that it doesn't keep. Tells how many steps need no offer
 /// any more.
-fn offer_from<T: ClauseTrade>(
+pub(crate) fn offer_from<T: ClauseTrade>(
     alloc: Global,
     own: u32,
-    parts: &EngineParts,
+    parts: &FrameworkSolver,
     from: usize,
     trade: &mut T,
 ) -> usize
@@ -171,16 +171,6 @@ fn offer_from<T: ClauseTrade>(
 }
 
 impl Engine {
-    /// Offers a trade the steps that may go to others and weren't kept by a trade yet, in their order.
-    pub(crate) fn offer<T: ClauseTrade>(&mut self, alloc: Global, trade: &mut T)
-        ensures same { self.new ≡ self.old }
-        ensures left { T.left trade.new ≡ T.left trade.old }
-        ensures gave { T.gave trade.new ≡ T.gave trade.old }
-        ensures follows { T.follows trade.old trade.new }
-    {
-        self.offered = offer_from(alloc, self.number, &self.parts, self.offered, trade);
-    }
-
     /// Whether a step went to others: it was offered to a trade, which kept it. Only tests call it.
     pub fn is_shared(&self, alloc: Global, step: StepId) -> Result<bool, Memory>
         requires { IsNumberOf self.now.log.steps step }

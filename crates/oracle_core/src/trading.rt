@@ -8,14 +8,15 @@ ghost use Rattle.oracle_face.specs.Growing.{HasRun, IsFound, NoSide, Obliges, On
 ghost use Rattle.oracle_face.specs.Logs.{IsKept};
 ghost use Rattle.oracle_face.specs.declared.entry.Entry.{Entry as AnEntry};
 ghost use Rattle.plain_lits.specs.Units.{Units};
-ghost use Rattle.oracle_core.specs.Engines.{AreInForce, IsWhole};
+ghost use Rattle.framework_solver.specs.Solvers.{AreInForce, IsWhole};
 ghost use Rattle.session_log.specs.Ends.{LoopInHand};
 ghost use Rattle.oracle_core.specs.Engines.{forgotten};
-ghost use Rattle.oracle_core.specs.Stepping.{GoesOnBySteps};
+ghost use Rattle.framework_solver.specs.Stepping.{GoesOnBySteps};
 ghost use Rattle.oracle_core.specs.Trading.{IsEmptied, TakesAll, Trades};
 
 use crate::engine::Engine;
-use crate::parts::EngineParts;
+use crate::sharing::offer_from;
+use framework_solver::FrameworkSolver;
 use lists::Memory;
 use meaning_atoms::AtomLit;
 use oracle_face::{AskId, ClauseTrade, Found, Oracle};
@@ -30,7 +31,7 @@ pub const MAX_TAKEN: usize = 1_024;
 pub(crate) fn take_all<T: ClauseTrade>(
     alloc: Global,
     own: u32,
-    parts: &mut EngineParts,
+    parts: &mut FrameworkSolver,
     trade: &mut T,
 ) -> Result<(), Memory>
     requires whole { IsWhole parts.old }
@@ -43,8 +44,8 @@ pub(crate) fn take_all<T: ClauseTrade>(
         parts.new.solver.log }
     ensures gave { IsPrefix (T.gave trade.old) (T.gave trade.new) }
     ensures follows { T.follows trade.old trade.new }
-    ensures all { OnOk result ((told : List AnEntry) → T.left trade.old ≡ Some told
-        → TakesAll (framework_of parts.old.framework) own told (T.left trade.new) parts.old.solver.log
+    ensures all { OnOk result ((waiting : List AnEntry) → T.left trade.old ≡ Some waiting
+        → TakesAll (framework_of parts.old.framework) own waiting (T.left trade.new) parts.old.solver.log
         parts.new.solver.log) }
 {
     let mut count = 0;
@@ -75,8 +76,8 @@ impl Engine {
     /// Takes what a trade gives, until it gives nothing, at most so many entries.
     fn take_all<T: ClauseTrade>(&mut self, alloc: Global, trade: &mut T) -> Result<(), Memory>
         requires { AreInForce self.old.framework self.old.log }
-        ensures all { OnOk result ((told : List AnEntry) → T.left trade.old ≡ Some told
-            → TakesAll self.old.framework self.old.number told (T.left trade.new) self.old.log self.new.log) }
+        ensures all { OnOk result ((waiting : List AnEntry) → T.left trade.old ≡ Some waiting
+            → TakesAll self.old.framework self.old.number waiting (T.left trade.new) self.old.log self.new.log) }
         ensures run { (units : Units) → HasRun NoSide 0 self.old.framework self.old.log self.new.log self.new.pending
             units units None }
         ensures steps { GoesOnBySteps self.old.framework self.old.number (T.gave trade.new) self.old.log self.new.log }
@@ -95,21 +96,21 @@ impl Engine {
         &mut self,
         alloc: Global,
         trade: &mut T,
-        lost: &mut bool,
+        out_of_memory: &mut bool,
     ) -> Result<(), Halt>
         ensures trades { Trades self.old self.new (T.left trade.old) (T.left trade.new) (T.gave trade.old)
-            (T.gave trade.new) lost.old lost.new }
+            (T.gave trade.new) out_of_memory.old out_of_memory.new }
         ensures follows { T.follows trade.old trade.new }
-        ensures all { OnOk result ((told : List AnEntry) → T.left trade.old ≡ Some told
-            → IsEmptied told (T.left trade.new)) }
-        ensures only_lost { result ≢ Err Halt.Memory → lost.new ≡ lost.old }
+        ensures all { OnOk result ((waiting : List AnEntry) → T.left trade.old ≡ Some waiting
+            → IsEmptied waiting (T.left trade.new)) }
+        ensures only_out_of_memory { result ≢ Err Halt.Memory → out_of_memory.new ≡ out_of_memory.old }
         ensures run { (units : Units) → HasRun NoSide 0 self.old.framework self.old.log self.new.log self.new.pending
             units units (halt_of result) }
     {
         self.add_needed_axioms(alloc)?;
         let taken = self.take_all(alloc, trade);
         if taken.is_err() {
-            *lost = true;
+            *out_of_memory = true;
             return Err(Halt::Memory);
         }
         Ok(())
@@ -129,49 +130,26 @@ impl Engine {
         &mut self,
         alloc: Global,
         trade: &mut T,
-        lost: &mut bool,
+        out_of_memory: &mut bool,
     ) -> Result<(), Halt>
         ensures trades { Trades self.old self.new (T.left trade.old) (T.left trade.new) (T.gave trade.old)
-            (T.gave trade.new) lost.old lost.new }
+            (T.gave trade.new) out_of_memory.old out_of_memory.new }
         ensures follows { T.follows trade.old trade.new }
-        ensures all { OnOk result ((told : List AnEntry) → T.left trade.old ≡ Some told
-            → IsEmptied told (T.left trade.new)) }
-        ensures only_lost { result ≢ Err Halt.Memory → lost.new ≡ lost.old }
+        ensures all { OnOk result ((waiting : List AnEntry) → T.left trade.old ≡ Some waiting
+            → IsEmptied waiting (T.left trade.new)) }
+        ensures only_out_of_memory { result ≢ Err Halt.Memory → out_of_memory.new ≡ out_of_memory.old }
         ensures run { (units : Units) → HasRun NoSide 0 self.old.framework self.old.log self.new.log self.new.pending
             units units (halt_of result) }
         ensures pending { self.new.pending ≡ None }
         ensures kept { IsKept self.new.framework self.new.log }
     {
-        let end = self.force_and_take(alloc, trade, lost);
+        let end = self.force_and_take(alloc, trade, out_of_memory);
         self.forget();
         end
     }
 }
 
 impl Engine {
-    /// One search. The flag is raised where memory is refused.
-    fn find_settled(
-        &mut self,
-        alloc: Global,
-        goals: &[AtomLit],
-        budget: &mut Budget,
-        lost: &mut bool,
-    ) -> Result<Found, Halt>
-        requires { AreGoals self.old.framework self.old.log.sides goals.now }
-        ensures found { IfOk result (IsFound self.old.framework self.new.log goals.now) }
-        ensures run { HasRun NoSide (closes result) self.old.framework self.old.log self.new.log self.new.pending
-            budget.old budget.new (halt_of result) }
-        ensures number { self.new.number ≡ self.old.number }
-        ensures framework { self.new.framework ≡ self.old.framework }
-        ensures kept { IsKept self.new.framework self.new.log }
-        ensures lost { lost.new ≡ false → lost.old ≡ false }
-        ensures steps { lost.new ≡ false
-            → GoesOnBySteps self.old.framework self.old.number [] self.old.log self.new.log }
-        ensures in_hand { LoopInHand self.new.log self.new.pending }
-    {
-        self.parts.find_settled(alloc, goals, budget, lost)
-    }
-
     /// One search, behind which a trade is offered what was derived. The flag is raised where memory is refused.
     fn find_and_offer<T: ClauseTrade>(
         &mut self,
@@ -179,20 +157,20 @@ impl Engine {
         goals: &[AtomLit],
         budget: &mut Budget,
         trade: &mut T,
-        lost: &mut bool,
+        out_of_memory: &mut bool,
     ) -> Result<Found, Halt>
         requires { AreGoals self.old.framework self.old.log.sides goals.now }
         ensures found { IfOk result (IsFound self.old.framework self.new.log goals.now) }
         ensures run { HasRun NoSide (closes result) self.old.framework self.old.log self.new.log self.new.pending
             budget.old budget.new (halt_of result) }
         ensures trades { Trades self.old self.new (T.left trade.old) (T.left trade.new) (T.gave trade.old)
-            (T.gave trade.new) lost.old lost.new }
+            (T.gave trade.new) out_of_memory.old out_of_memory.new }
         ensures follows { T.follows trade.old trade.new }
         ensures kept { IsKept self.new.framework self.new.log }
         ensures in_hand { LoopInHand self.new.log self.new.pending }
     {
-        let end = self.find_settled(alloc, goals, budget, lost);
-        self.offer(alloc, trade);
+        let end = self.parts.find_settled(alloc, goals, budget, out_of_memory);
+        self.offered = offer_from(alloc, self.number, &self.parts, self.offered, trade);
         end
     }
 
@@ -203,18 +181,19 @@ impl Engine {
         side: &[AtomLit],
         from: &NumSet,
         budget: &mut Budget,
-        lost: &mut bool,
+        out_of_memory: &mut bool,
     ) -> Result<AskId, Halt>
         requires { IsSide side.now }
         ensures obliges { IfOk result (Obliges side.now self.old.log self.new.log) }
         ensures run { HasRun (OnlySide side.now from.now) 0 self.old.framework self.old.log self.new.log
             self.new.pending budget.old budget.new (halt_of result) }
         ensures trades { (left : Option (List AnEntry)) (gave : List AnEntry)
-            → Trades self.old self.new left left gave gave lost.old lost.new }
+            → Trades self.old self.new left left gave gave out_of_memory.old out_of_memory.new }
         ensures kept { IsKept self.new.framework self.new.log }
         ensures in_hand { LoopInHand self.new.log self.new.pending }
     {
-        self.parts.oblige_settled(alloc, side, from, budget, lost)
+        self.parts
+            .oblige_settled(alloc, side, from, budget, out_of_memory)
     }
 }
 
@@ -225,14 +204,14 @@ pub(crate) struct Trading<'a, T: ClauseTrade> {
     pub(crate) engine: &'a mut Engine,
     pub(crate) trade: &'a mut T,
     /// Whether the trade gave what it has for the next search already.
-    pub(crate) ready: bool,
+    pub(crate) has_imported: bool,
     /// Whether memory was refused on the way: an entry may be lost then, and steps may have come that nothing tells.
-    pub(crate) lost: bool,
+    pub(crate) out_of_memory: bool,
 }
 
 impl<'a, T: ClauseTrade> Oracle for Trading<'a, T> {
-    ghost use Rattle.oracle_core.specs.Stepping.{ServesInHand};
-    ghost use Rattle.oracle_core.specs.SteppingLaws.{in_hand_joined, in_hand_none};
+    ghost use Rattle.oracle_core.specs.InHand.{ServesInHand};
+    ghost use Rattle.oracle_core.specs.InHand.{in_hand_joined, in_hand_none};
     ghost use Rattle.oracle_core.specs.Trading.{Trades};
     ghost use Rattle.oracle_core.specs.TradingLaws.{trades_none, trades_joined};
     ghost use Rattle.std.proofs.Common.{◌≡◌, ◌∙◌, refl};
@@ -246,7 +225,7 @@ impl<'a, T: ClauseTrade> Oracle for Trading<'a, T> {
     ghost follows = { λ before after. (after.engine.ghost_name ≡ before.engine.ghost_name)
         × (after.trade.ghost_name ≡ before.trade.ghost_name)
         × Trades before.engine.now after.engine.now (T.left before.trade.now) (T.left after.trade.now)
-        (T.gave before.trade.now) (T.gave after.trade.now) before.lost after.lost
+        (T.gave before.trade.now) (T.gave after.trade.now) before.out_of_memory after.out_of_memory
         × ServesInHand before.engine.now after.engine.now
         × T.follows before.trade.now after.trade.now };
 
@@ -264,15 +243,16 @@ impl<'a, T: ClauseTrade> Oracle for Trading<'a, T> {
         goals: &[AtomLit],
         budget: &mut Budget,
     ) -> Result<Found, Halt> {
-        if self.ready {
-            self.ready = false;
+        if self.has_imported {
+            self.has_imported = false;
             return self
                 .engine
-                .find_and_offer(alloc, goals, budget, self.trade, &mut self.lost);
+                .find_and_offer(alloc, goals, budget, self.trade, &mut self.out_of_memory);
         }
-        self.engine.prepare(alloc, self.trade, &mut self.lost)?;
         self.engine
-            .find_and_offer(alloc, goals, budget, self.trade, &mut self.lost)
+            .prepare(alloc, self.trade, &mut self.out_of_memory)?;
+        self.engine
+            .find_and_offer(alloc, goals, budget, self.trade, &mut self.out_of_memory)
     }
 
     fn oblige(
@@ -283,7 +263,7 @@ impl<'a, T: ClauseTrade> Oracle for Trading<'a, T> {
         budget: &mut Budget,
     ) -> Result<AskId, Halt> {
         self.engine
-            .oblige_settled(alloc, side, from, budget, &mut self.lost)
+            .oblige_settled(alloc, side, from, budget, &mut self.out_of_memory)
     }
 
     fn range(&self, alloc: Global, set: &NumSet) -> Result<NumSet, Memory> {
@@ -306,7 +286,7 @@ impl<'a, T: ClauseTrade> Oracle for Trading<'a, T> {
     ghost stays = { λ t. (
       refl,
       refl,
-      trades_none t.engine.now (T.left t.trade.now) (T.gave t.trade.now) t.lost,
+      trades_none t.engine.now (T.left t.trade.now) (T.gave t.trade.now) t.out_of_memory,
       in_hand_none t.engine.now,
       T.stays t.trade.now,
     ) };
@@ -316,7 +296,7 @@ impl<'a, T: ClauseTrade> Oracle for Trading<'a, T> {
       second.1 ∙ first.1,
       trades_joined before.engine.now between.engine.now after.engine.now (T.left before.trade.now)
           (T.left between.trade.now) (T.left after.trade.now) (T.gave before.trade.now) (T.gave between.trade.now)
-          (T.gave after.trade.now) before.lost between.lost after.lost first.2 second.2,
+          (T.gave after.trade.now) before.out_of_memory between.out_of_memory after.out_of_memory first.2 second.2,
       in_hand_joined before.engine.now between.engine.now after.engine.now first.3 second.3,
       T.joins before.trade.now between.trade.now after.trade.now first.4 second.4,
     ) };

@@ -20,7 +20,7 @@ use Rattle.session_log.specs.Ends.{Course, Ending, IsEnd, LoopInHand, MadeFor, W
 use Rattle.session_log.specs.Ends.{definite, log_full, refused, too_many, unknown}
 use Rattle.core_machine.specs.Core.{Core, CoreSession, seen_framework, with_session}
 use Rattle.core_machine.specs.Steps.{IsStep, after_turn, answer, cut, goes, refresh, rests}
-use Rattle.oracle_core.specs.SteppingLaws.{loops_joined}
+use Rattle.framework_solver.specs.SteppingLaws.{loops_joined}
 use Rattle.session_replies.specs.declared.reply.Body.{Body}
 use Rattle.session_replies.specs.declared.reply.Body.TheVariants.{Answered, Done, EditRefused, Full, LogFull}
 use Rattle.session_replies.specs.declared.reply.Body.TheVariants.{QueryRefused, TooMany, Unknown}

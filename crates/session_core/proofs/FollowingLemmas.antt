@@ -20,7 +20,7 @@ use Rattle.oracle_face.specs.Growing.{Grows, NoSide}
 use Rattle.oracle_face.specs.Logs.{OracleLog, by_axiom, closings_of, units_of}
 use Rattle.oracle_face.proofs.GrowingLemmas.{grows_joined, grows_same}
 use Rattle.oracle_core.specs.Engines.{EngineState}
-use Rattle.oracle_core.specs.Updating.{AddsNeeded, GainsNeeded, TakesNeeded}
+use Rattle.framework_solver.specs.Updating.{AddsNeeded, GainsNeeded, TakesNeeded}
 use Rattle.session_log.specs.Steps.{own_step}
 use Rattle.session_log.proofs.AxiomLemmas.{needed_no_loop}
 use Rattle.session_log.proofs.Spending.{axiom_spends}

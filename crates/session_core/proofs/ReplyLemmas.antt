@@ -17,13 +17,13 @@ use Rattle.oracle_core.specs.declared.reply.AnswerStop.{AnswerStop}
 use Rattle.oracle_core.specs.declared.reply.AnswerStop.TheVariants as stop
 use Rattle.oracle_core.specs.Answering.{IsCause, halt_behind}
 use Rattle.oracle_core.specs.Answers.{IsShownBy}
-use Rattle.oracle_core.specs.Stepping.{GoesOnBySteps}
+use Rattle.framework_solver.specs.Stepping.{GoesOnBySteps}
 use Rattle.session_replies.specs.declared.reply.Body.{Body}
 use Rattle.session_replies.specs.declared.reply.Body.TheVariants.{Done, EditRefused, Full}
 use Rattle.session_replies.specs.declared.reply.Body.TheVariants.{Answered as OfAnswered, QueryRefused, Unknown}
 use Rattle.session_replies.specs.declared.reply.Body.TheVariants.{TooMany, LogFull}
 use Rattle.semantics.specs.declared.limits.TheConstants.{MAX_EXTENSIONS}
-use Rattle.session_core.specs.declared.answering.Told.{Told}
+use Rattle.session_core.specs.declared.answering.QueryEnd.{QueryEnd}
 use Rattle.session_core.specs.Replies.{IsShownIn, Keeps, QuerySays, halt_told, units_used}
 use Rattle.session_core.specs.Telling.{IsBodyOf, IsTold, clause_kept}
 
@@ -128,7 +128,7 @@ shown_in f asked new (Err stop.Memory) said is by_log = absurd is
 
 -- what a query came to, as the session tells it
 pub told_is : (f : Framework) (own : ℕ) (asked : Asked) (limit : ℕ) (old new : OracleLog) (pending : Option Pending)
-    (before after : Units) (end : Result Answered AnswerStop) (told : Told) → before.limit ≡ limit → before.used ≡ 0
+    (before after : Units) (end : Result Answered AnswerStop) (told : QueryEnd) → before.limit ≡ limit → before.used ≡ 0
     → after.used ≤ after.limit → OnOk end (Fits f asked)
     → IfOk end (λ a. IsShownBy f asked a.answer a.certificate) → IfOk end (λ a. AreCut new a.certificate.refutations)
     → IfErr end (IsCause f asked MAX_EXTENSIONS new)

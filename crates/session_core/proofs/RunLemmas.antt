@@ -43,7 +43,7 @@ use Rattle.core_machine.specs.Core.{Core, CoreSession, put_at, seen_framework, w
 use Rattle.core_machine.specs.Steps.{Event, IsCalledFor, IsNamedInPool, IsNeededFor, IsStep, Runs, TakesByOrigin}
 use Rattle.core_machine.specs.Steps.{after_turn, cut, goes, is_by_side, is_side_step, learn, refresh, rests, side}
 use Rattle.core_machine.specs.Steps.{take_in, taken_by}
-use Rattle.oracle_core.proofs.EngineKinds.{needed_axiom}
+use Rattle.framework_solver.proofs.KindLemmas.{needed_axiom}
 use Rattle.session_core.specs.CoreRuns.{AreOfLog, HasPooled, IsAtRest, IsOfLog, IsQuiet, StandsAt}
 use Rattle.session_core.specs.Following.{AddsNeededAfter, TakesNeededAfter}
 use Rattle.session_core.proofs.FollowingLemmas.{replay_parts}

@@ -7,7 +7,7 @@ use Rattle.edit_history.specs.Entries.{framework_after}
 use Rattle.oracle_face.specs.Growing.{Grows, NoSide}
 use Rattle.oracle_face.specs.Logs.{OracleLog, closings_of, units_of}
 use Rattle.oracle_core.specs.Engines.{EngineState}
-use Rattle.oracle_core.specs.Updating.{TakesNeeded}
+use Rattle.framework_solver.specs.Updating.{TakesNeeded}
 
 -- the engine is for the framework after the first entries of the history, so many
 pub record HasFollowed (f : Framework) (history : List HistoryEntry) (count : ℕ) (engine : EngineState) : Type 0 where

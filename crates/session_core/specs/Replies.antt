@@ -20,7 +20,7 @@ use Rattle.oracle_core.specs.certificate_making.specs.Cuts.{AreCut}
 use Rattle.oracle_core.specs.query_answers.specs.Answers.{AreTooMany}
 use Rattle.oracle_core.specs.Answering.{NeedsSearch}
 use Rattle.oracle_core.specs.Answers.{IsShownBy}
-use Rattle.oracle_core.specs.Stepping.{GoesOnBySteps}
+use Rattle.framework_solver.specs.Stepping.{GoesOnBySteps}
 use Rattle.oracle_core.specs.Trading.{AnySide}
 use Rattle.session_replies.specs.declared.reply.Body.{Body}
 use Rattle.session_replies.specs.declared.reply.Body.TheVariants.{Done, EditRefused, Full}

@@ -14,7 +14,7 @@ use Rattle.oracle_core.specs.declared.reply.AnswerStop.{AnswerStop}
 use Rattle.oracle_core.specs.declared.reply.AnswerStop.TheVariants as stop
 use Rattle.session_replies.specs.declared.reply.Body.{Body}
 use Rattle.session_replies.specs.declared.reply.Body.TheVariants as body
-use Rattle.session_core.specs.declared.answering.Told.{Told}
+use Rattle.session_core.specs.declared.answering.QueryEnd.{QueryEnd}
 use Rattle.session_core.specs.declared.kept.KeptAnswer.{KeptAnswer}
 use Rattle.session_core.specs.declared.session.Session.{Session}
 use Rattle.session_core.specs.Following.{CatchesUp}
@@ -38,7 +38,7 @@ clause_kept (body.Unknown count) in_hand = in_hand
 clause_kept said in_hand = None
 
 -- a query to the engine of a number came to a reply, and what is kept of it, with the tokens of what the pool gave
-pub record IsTold (f : Framework) (own : ℕ) (asked : Asked) (limit : ℕ) (old new : OracleLog) (told : Told) : Type 0
+pub record IsTold (f : Framework) (own : ℕ) (asked : Asked) (limit : ℕ) (old new : OracleLog) (told : QueryEnd) : Type 0
   where
     pub used : ℕ
     pub replied : IsReplied f asked limit old new told.kept.pending used told.body

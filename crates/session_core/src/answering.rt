@@ -20,7 +20,7 @@ use std::sync::Wait;
 
 /// What a query came to.
 #[derive(Drop)]
-pub(crate) struct Told {
+pub(crate) struct QueryEnd {
     pub(crate) body: Body,
     pub(crate) kept: KeptAnswer,
     /// The index of the next entry that the pool has to give.
@@ -53,13 +53,13 @@ fn clause_of(alloc: Global, engine: &Engine, body: &Body) -> Result<Option<Pendi
 
 /// Answers a query by at most so many units, without any lock. Clauses come and go meanwhile by a trade over the pool,
 /// which has given none yet.
-pub(crate) fn tell<R: Wait>(
+pub(crate) fn answer_query<R: Wait>(
     alloc: Global,
     engine: &mut Engine,
     mut trade: PoolTrade<'_, R>,
     query: &Query,
     limit: u64,
-) -> Result<Told, Memory>
+) -> Result<QueryEnd, Memory>
     requires { trade.taken ≡ [] }
     ensures told { IfOk result (IsTold engine.old.framework engine.old.number query.now limit engine.old.log
         engine.new.log) }
@@ -76,7 +76,7 @@ pub(crate) fn tell<R: Wait>(
     let pending = clause_of(alloc, engine, &body)?;
     let after = engine.steps() as u64;
     let next = trade.next();
-    Ok(Told {
+    Ok(QueryEnd {
         body,
         kept: KeptAnswer {
             before,

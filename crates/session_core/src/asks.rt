@@ -10,7 +10,7 @@ ghost use Rattle.session_core.specs.Following.{HasFollowed};
 ghost use Rattle.session_core.specs.Sessions.{Follows, IsAsked, TakesMore, seen_by};
 ghost use Rattle.session_core.specs.Telling.{HasTold, HasTurn, IsCaughtUp};
 
-use crate::answering::tell;
+use crate::answering::answer_query;
 use crate::following::follow;
 use crate::session::Session;
 use argue_outside::{Pace, Point};
@@ -64,7 +64,7 @@ impl Session {
     {
         self.answers.reserve(1)?;
         let trade = PoolTrade::new(rt, alloc, pool, self.taken);
-        let told = tell(alloc, &mut self.engine, trade, query, limit)?;
+        let told = answer_query(alloc, &mut self.engine, trade, query, limit)?;
         let next = told.next;
         self.answers.push(told.kept)?;
         self.taken = next;

@@ -3,13 +3,13 @@
 ghost use Rattle.std.specs.Prelude.{◌≡◌, OnOk};
 ghost use Rattle.edit_rules.specs.Replay.{IsTaken, after_edit};
 ghost use Rattle.edit_history.specs.Entries.{AreDone, entries_in, framework_after};
-ghost use Rattle.oracle_core.specs.Updating.{GainsNeeded};
+ghost use Rattle.framework_solver.specs.Updating.{GainsNeeded};
 ghost use Rattle.session_core.specs.Following.{CatchesUp};
 
 use edit_history::Change;
 use edit_rules::Effect;
 use lists::Memory;
-use oracle_core::{Engine, UpdateStop};
+use oracle_core::Engine;
 use std::alloc::Global;
 
 /// Brings an engine to the framework after a change. A full log keeps none of it back but axioms.

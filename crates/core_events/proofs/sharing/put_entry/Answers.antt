@@ -5,6 +5,6 @@ use Rattle.core_events.proofs.sharing.put_entry.Goals as goal
 
 pub returns-in_default-clause-ok : goal.returns-in_default-clause-ok
 returns-in_default-clause-ok c =
-    on_ok_to c.add_place.result c.add_place.ensures.ok
-    (put_new c.args.places.now.items c.add_place.new.places.items c.args.index c.args.entry
+    on_ok_to c.add_indexed.result c.add_indexed.ensures.ok
+    (put_new c.args.places.now.items c.add_indexed.new.places.items c.args.index c.args.entry
     (ap (λ ps. pool_of ps c.args.index) (sym c.as_slice.ensures.value) ∙ c.in_default.ensures.none))

@@ -2,7 +2,7 @@ use Rattle.std.proofs.Common.{◌≡◌, rules, subst, sym, Ok, None}
 use Rattle.oracle_face.specs.Trades.{GivesFirst, GivesMore}
 use Rattle.edit_rules.specs.Kinds.{framework_of}
 use mathlib.Core.List.{IsPrefix}
-use Rattle.oracle_core.specs.Stepping.{GoesOnBySteps}
+use Rattle.framework_solver.specs.Stepping.{GoesOnBySteps}
 use Rattle.oracle_core.proofs.EntriesTaken.{gave_more, none_more, run_more, steps_more, taking_last, taking_more}
 use Rattle.oracle_core.proofs.EntriesTaken.{taking_most, taking_none}
 use Rattle.oracle_core.proofs.trading.take_all.Goals as goal
@@ -31,14 +31,14 @@ returns-in_err-entry-clause-follows g c =
     c.in_err-entry.ensures.follows
 
 pub returns-in_default-clause-all : goal.returns-in_default-clause-all
-returns-in_default-clause-all g c = λ told is.
+returns-in_default-clause-all g c = λ waiting is.
     let none : c.in_ok-entry.field-0 ≡ None = search rules in
     taking_last c.args.own c.args.parts.now c.loop-count.parts (g.T.ClauseTrade.left c.args.trade.now)
     (g.T.ClauseTrade.left c.loop-count.trade) (g.T.ClauseTrade.left c.take.new.self)
     (g.T.ClauseTrade.gave c.args.trade.now) (g.T.ClauseTrade.gave c.loop-count.trade) c.loop-count.count
     c.loop-count.invariant.0
     (subst (λ taken. GivesFirst (g.T.ClauseTrade.left c.loop-count.trade) (Ok taken)
-    (g.T.ClauseTrade.left c.take.new.self)) none c.in_ok-entry.ensures.first) told is
+    (g.T.ClauseTrade.left c.take.new.self)) none c.in_ok-entry.ensures.first) waiting is
 
 pub returns-in_default-clause-steps : goal.returns-in_default-clause-steps
 returns-in_default-clause-steps g c =
@@ -105,8 +105,8 @@ loop-count-preserved g c = (
 )
 
 pub returns-clause-all : goal.returns-clause-all
-returns-clause-all g c = λ told is.
+returns-clause-all g c = λ waiting is.
     taking_most c.args.own c.args.parts.now c.loop-count.parts (g.T.ClauseTrade.left c.args.trade.now)
     (g.T.ClauseTrade.left c.loop-count.trade) (g.T.ClauseTrade.gave c.args.trade.now)
     (g.T.ClauseTrade.gave c.loop-count.trade) c.loop-count.count c.loop-count-test.false c.loop-count.invariant.0
-    told is
+    waiting is

@@ -2,7 +2,7 @@ use Rattle.std.proofs.Common.{◌≡◌, subst, sym, take}
 use Rattle.edit_rules.specs.Replay.{IsTaken, after_edit}
 use Rattle.edit_history.specs.Entries.{entries_in, framework_after}
 use Rattle.edit_history.specs.declared.entry.Change.{Change}
-use Rattle.oracle_core.specs.Updating.{GainsNeeded}
+use Rattle.framework_solver.specs.Updating.{GainsNeeded}
 use Rattle.session_core.proofs.FollowingLemmas.{caught_more, following_more, taken_at}
 use Rattle.session_core.proofs.following.follow.Goals as goal
 

@@ -1,7 +1,7 @@
 use Rattle.std.proofs.Common.{◌≡◌, ◌∙◌, ◌∷◌, List, ap, refl, subst, sym}
 use Rattle.std.specs.Prelude.{◌⊎◌, Some, None}
 use Rattle.std.proofs.lemmas.List.{get_or_default}
-use Rattle.core_events.specs.declared.places.Place.{Place}
+use Rattle.core_events.specs.declared.places.IndexedEntry.{IndexedEntry}
 use Rattle.core_events.specs.declared.seats.MachineSeat.{MachineSeat}
 use Rattle.core_events.specs.Machines.{core_of}
 use Rattle.core_events.specs.Places.{pool_of}
@@ -21,7 +21,8 @@ returns c =
     let m = c.args.self.now in
     shares m c.args.session c.args.number c.args.place c.args.index c.index_mut.result.now c.put_entry.new.places
     c.in_ok-shared.shared c.args.entry c.requires.at c.index_mut.ensures.value c.requires.entry
-    (subst (λ (ps : List Place). (pool_of ps c.args.place ≡ None) ⊎ (pool_of ps c.args.place ≡ Some c.args.entry))
+    (subst (λ (ps : List IndexedEntry). (pool_of ps c.args.place ≡ None) ⊎
+    (pool_of ps c.args.place ≡ Some c.args.entry))
     c.as_slice.ensures.value (c.may_stand.ensures.0 c.if-not-may_stand.false))
     c.in_ok-put_entry.ensures.ok
     (c.in_ok-shared.ensures

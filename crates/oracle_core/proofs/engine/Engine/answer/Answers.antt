@@ -1,4 +1,4 @@
-use Rattle.oracle_core.specs.SteppingLaws.{goes_on_none}
+use Rattle.framework_solver.specs.SteppingLaws.{goes_on_none}
 use Rattle.oracle_core.proofs.engine.Engine.answer.Goals as goal
 
 pub returns-in_err-query_fits-clause-steps : goal.returns-in_err-query_fits-clause-steps

@@ -2,8 +2,8 @@ use Rattle.std.proofs.Common.{sym, ◌∙◌, true, None}
 use Rattle.plain_lits.specs.Units.{Units}
 use Rattle.oracle_face.specs.Growing.{NoSide}
 use Rattle.oracle_core.specs.TradingLaws.{trades_joined}
-use Rattle.oracle_core.proofs.Joining.{forced_then, halted_any}
-use Rattle.oracle_core.proofs.TradeLemmas.{all_trades, forced_trades, lost_trades, ok_of, run_lost}
+use Rattle.framework_solver.proofs.Joining.{forced_then, halted_any}
+use Rattle.oracle_core.proofs.TradeLemmas.{all_trades, forced_trades, trades_out_of_memory, ok_of, run_out_of_memory}
 use Rattle.oracle_core.proofs.engine.Engine.force_and_take.Goals as goal
 
 abbrev no_units : Units
@@ -13,7 +13,8 @@ pub returns-in_err-add_needed_axioms-clause-trades : goal.returns-in_err-add_nee
 returns-in_err-add_needed_axioms-clause-trades g c =
     let a = c.args.self.now in
     let b = c.add_needed_axioms.new.self in
-    forced_trades a b (g.T.ClauseTrade.left c.args.trade.now) (g.T.ClauseTrade.gave c.args.trade.now) c.args.lost.now
+    forced_trades a b (g.T.ClauseTrade.left c.args.trade.now) (g.T.ClauseTrade.gave c.args.trade.now)
+    c.args.out_of_memory.now
     c.in_err-add_needed_axioms.ensures.number
     c.in_err-add_needed_axioms.ensures.framework (c.in_err-add_needed_axioms.ensures.run no_units).grows
     c.in_err-add_needed_axioms.ensures.steps
@@ -34,11 +35,11 @@ returns-then-is_err-clause-trades g c =
     let later = g.T.ClauseTrade.left c.take_all-taken.new.trade in
     let gave = g.T.ClauseTrade.gave c.args.trade.now in
     let gave_new = g.T.ClauseTrade.gave c.take_all-taken.new.trade in
-    trades_joined a b d left left later gave gave gave_new c.args.lost.now c.args.lost.now true
-    (forced_trades a b left gave c.args.lost.now c.in_ok-add_needed_axioms.ensures.number
+    trades_joined a b d left left later gave gave gave_new c.args.out_of_memory.now c.args.out_of_memory.now true
+    (forced_trades a b left gave c.args.out_of_memory.now c.in_ok-add_needed_axioms.ensures.number
     c.in_ok-add_needed_axioms.ensures.framework
     (c.in_ok-add_needed_axioms.ensures.run no_units).grows c.in_ok-add_needed_axioms.ensures.steps)
-    (lost_trades b d left later gave gave_new c.args.lost.now c.take_all-taken.ensures.number
+    (trades_out_of_memory b d left later gave gave_new c.args.out_of_memory.now c.take_all-taken.ensures.number
     c.take_all-taken.ensures.framework (c.take_all-taken.ensures.run no_units).grows c.take_all-taken.ensures.gave)
 
 pub returns-clause-run : goal.returns-clause-run
@@ -55,7 +56,7 @@ returns-then-is_err-clause-run g c = λ units.
     let a = c.args.self.now in
     let b = c.add_needed_axioms.new.self in
     let d = c.take_all-taken.new.self in
-    run_lost NoSide 0 a.framework a.log d.log d.pending units units None
+    run_out_of_memory NoSide 0 a.framework a.log d.log d.pending units units None
     (forced_then a.framework b.framework a.log b.log d.log b.pending d.pending units units 0 None
     c.in_ok-add_needed_axioms.ensures.framework (c.in_ok-add_needed_axioms.ensures.run units)
     (c.take_all-taken.ensures.run units))
@@ -69,18 +70,19 @@ returns-clause-trades g c =
     let later = g.T.ClauseTrade.left c.take_all-taken.new.trade in
     let gave = g.T.ClauseTrade.gave c.args.trade.now in
     let gave_new = g.T.ClauseTrade.gave c.take_all-taken.new.trade in
-    trades_joined a b d left left later gave gave gave_new c.args.lost.now c.args.lost.now c.args.lost.now
-    (forced_trades a b left gave c.args.lost.now c.in_ok-add_needed_axioms.ensures.number
+    trades_joined a b d left left later gave gave gave_new c.args.out_of_memory.now c.args.out_of_memory.now
+    c.args.out_of_memory.now
+    (forced_trades a b left gave c.args.out_of_memory.now c.in_ok-add_needed_axioms.ensures.number
     c.in_ok-add_needed_axioms.ensures.framework
     (c.in_ok-add_needed_axioms.ensures.run no_units).grows c.in_ok-add_needed_axioms.ensures.steps)
-    (all_trades b d left later gave gave_new c.args.lost.now c.take_all-taken.ensures.number
+    (all_trades b d left later gave gave_new c.args.out_of_memory.now c.take_all-taken.ensures.number
     c.take_all-taken.ensures.framework (c.take_all-taken.ensures.run no_units).grows c.take_all-taken.ensures.gave
     c.take_all-taken.ensures.steps
     (ok_of c.take_all-taken.result (sym c.is_err.ensures.value ∙ c.if-is_err.false) c.take_all-taken.ensures.all))
 
 pub returns-clause-all : goal.returns-clause-all
-returns-clause-all g c = λ told is.
-    (ok_of c.take_all-taken.result (sym c.is_err.ensures.value ∙ c.if-is_err.false) c.take_all-taken.ensures.all told
+returns-clause-all g c = λ waiting is.
+    (ok_of c.take_all-taken.result (sym c.is_err.ensures.value ∙ c.if-is_err.false) c.take_all-taken.ensures.all waiting
     is).emptied
 
 pub returns-in_err-add_needed_axioms-clause-follows : goal.returns-in_err-add_needed_axioms-clause-follows

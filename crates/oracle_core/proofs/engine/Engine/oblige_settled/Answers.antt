@@ -10,6 +10,7 @@ returns-clause-trades c = rw (← c.self.view_is) (λ left gave.
     let own = c.self.inside.number in
     let parts = c.oblige_settled.new.self in
     called_trades (OnlySide c.args.side.now c.args.from.now) (engine_state own c.self.inside.parts)
-    (engine_state own parts) left gave c.args.lost.now c.oblige_settled.new.lost refl
-    (ap framework_of c.oblige_settled.ensures.framework) c.oblige_settled.ensures.run.grows c.oblige_settled.ensures.kept
+    (engine_state own parts) left gave c.args.out_of_memory.now c.oblige_settled.new.out_of_memory refl
+    (ap framework_of c.oblige_settled.ensures.framework) c.oblige_settled.ensures.run.grows
+    c.oblige_settled.ensures.kept
     (λ so. c.oblige_settled.ensures.steps own))

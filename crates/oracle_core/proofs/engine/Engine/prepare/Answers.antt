@@ -14,9 +14,10 @@ returns-clause-trades g c =
     let later = g.T.ClauseTrade.left c.force_and_take-end.new.trade in
     let gave = g.T.ClauseTrade.gave c.args.trade.now in
     let gave_later = g.T.ClauseTrade.gave c.force_and_take-end.new.trade in
-    subst (λ (e : EngineState). Trades a e left later gave gave_later c.args.lost.now c.force_and_take-end.new.lost)
+    subst (λ (e : EngineState). Trades a e left later gave gave_later c.args.out_of_memory.now
+    c.force_and_take-end.new.out_of_memory)
     (sym c.forget.ensures.forgotten)
-    (trades_forgotten a b left later gave gave_later c.args.lost.now c.force_and_take-end.new.lost
+    (trades_forgotten a b left later gave gave_later c.args.out_of_memory.now c.force_and_take-end.new.out_of_memory
     c.force_and_take-end.ensures.trades)
 
 pub returns-clause-run : goal.returns-clause-run

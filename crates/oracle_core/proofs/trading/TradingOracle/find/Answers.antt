@@ -1,7 +1,7 @@
 use Rattle.std.proofs.Common.{inl, refl}
 use Rattle.oracle_face.specs.Growing.{closes, halt_of}
 use Rattle.oracle_core.specs.TradingLaws.{trades_joined}
-use Rattle.oracle_core.proofs.Joining.{forced_then, goals_still, halted}
+use Rattle.framework_solver.proofs.Joining.{forced_then, goals_still, halted}
 use Rattle.oracle_core.proofs.trading.TradingOracle.find.Goals as goal
 
 pub returns-in_err-prepare-clause-run : goal.returns-in_err-prepare-clause-run
@@ -22,7 +22,8 @@ returns-clause-run g c =
     let a = c.args.self.now.engine.now in
     let b = c.prepare.new.self in
     let d = c.find_and_offer-2.new.self in
-    forced_then a.framework b.framework a.log b.log d.log b.pending d.pending c.args.budget.now c.find_and_offer-2.new.budget
+    forced_then a.framework b.framework a.log b.log d.log b.pending d.pending c.args.budget.now
+    c.find_and_offer-2.new.budget
     (closes c.find_and_offer-2.result) (halt_of c.find_and_offer-2.result) c.in_ok-prepare.ensures.trades.framework
     (c.in_ok-prepare.ensures.run c.args.budget.now) c.find_and_offer-2.ensures.run
 
@@ -39,7 +40,7 @@ returns-clause-follows g c =
       refl,
       trades_joined a b d left later (g.T.ClauseTrade.left c.find_and_offer-2.new.trade) gave gave_later
           (g.T.ClauseTrade.gave c.find_and_offer-2.new.trade)
-          c.args.self.now.lost c.prepare.new.lost c.find_and_offer-2.new.lost
+          c.args.self.now.out_of_memory c.prepare.new.out_of_memory c.find_and_offer-2.new.out_of_memory
           c.in_ok-prepare.ensures.trades c.find_and_offer-2.ensures.trades,
       inl c.find_and_offer-2.ensures.in_hand,
       g.met.T.ClauseTrade.joins c.args.self.now.trade.now c.prepare.new.trade c.find_and_offer-2.new.trade

@@ -1,9 +1,0 @@
-use Rattle.std.specs.Prelude.{◌-◌, length}
-use Rattle.oracle_core.proofs.Forcing.{HasTaken}
-use Rattle.oracle_core.proofs.parts.EngineParts.add_missing.Given as goal
-
-abbrev pub invariant-loop-self : goal.invariant-loop-self
-invariant-loop-self l = HasTaken l.fn.self l.self
-
-abbrev pub decreases-loop-self : goal.decreases-loop-self
-decreases-loop-self l = length l.self.needed - l.self.taken
