@@ -390,8 +390,9 @@ def speed(calls, folder, steps, runs):
 def main():
     words = argparse.ArgumentParser(description=__doc__.splitlines()[0])
     words.add_argument("--checker", required=True, help="called as CHECKER CNF LRAT; it prints `s VERIFIED`")
-    words.add_argument("--program", default=str(TOP / "out" / "argue"), help="the built program; ./argue builds this one")
-    words.add_argument("--picosat", default=shutil.which("picosat.trace") or "picosat.trace")
+    built = str(TOP / "out" / "argue")
+    words.add_argument("--program", default=built, help="the built program, else ./argue builds it")
+    words.add_argument("--picosat", default="picosat", help="one that was built with traces")
     words.add_argument("--only", choices=("export", "traces", "speed"))
     words.add_argument("--runs", type=int, default=5)
     words.add_argument("--steps", type=int, default=1_000_000)
@@ -399,7 +400,7 @@ def main():
     words.add_argument("--no-export", action="store_true", help="nothing is exported")
     words.add_argument("--keep", help="a folder for the files, else a temporary one")
     given = words.parse_args()
-    if given.program == str(TOP / "out" / "argue") and not (given.no_lrat and given.no_export):
+    if given.program == built and not (given.no_lrat and given.no_export):
         if os.system(f"'{TOP / 'argue'}' >/dev/null") != 0:
             sys.exit("bench: ./argue doesn't run")
     calls, held = Calls(given), True
