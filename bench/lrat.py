@@ -13,8 +13,8 @@ Three parts, each of which ends in a line of its own; the script ends with statu
   its source: `apt-get source picosat`, then `./configure.sh -O --trace && make picosat` in it.
 - `speed`: `lrat` beside the checker on refutations of 1,000,000 steps: a chain of clauses of two literals, and the
   clauses of ten literals and five hints of `bench/check.py`. It has to take at most twice the checker's seconds of the
-  processor, by medians of runs in turn, and 1,000 MB. And `export` of the latter certificate, which has to write
-  100 MB in a second of the processor or more.
+  processor, by medians of runs in turn, and 1,000 MB. And `export` of the latter certificate, which checks it first:
+  in the seconds of the processor that it takes beside those of `check` it has to write 100 MB each or more.
 
 The checker is called as CHECKER CNF LRAT and prints `s VERIFIED`, as lrat-check of drat-trim does. With `--no-lrat`
 the program isn't asked to verify, and with `--no-export` not to export, so that each half can be tried alone.
@@ -357,21 +357,23 @@ def rated(calls, folder, steps, runs):
     Path(answer).write_text("NO\n", encoding="ascii")
     check.write_certificate(certificate, steps)
     query = ["-p", "DC-CO", "-f", framework, "-a", "1", "-r", answer, "-c", certificate]
-    words = ["export", *query, "-i", "1", "-o", name]
-    rates, most = [], 0
-    for _ in range(runs):
-        _, memory, status, used = check.timed(calls.program, words, out)
+    words = {"check": ["check", *query], "export": ["export", *query, "-i", "1", "-o", name]}
+    seconds, most = {part: [] for part in words}, 0
+    for part in list(words) * runs:
+        _, memory, status, used = check.timed(calls.program, words[part], out)
         if status:
-            print(f"speed: export: {Path(out).read_text(encoding='ascii').strip()} (status {status})")
+            print(f"speed: {part}: {Path(out).read_text(encoding='ascii').strip()} (status {status})")
             return False
-        size = (os.path.getsize(f"{name}.cnf") + os.path.getsize(f"{name}.lrat")) / 1e6
-        rates.append(size / used)
+        seconds[part].append(used)
         most = max(most, memory)
-    rate = statistics.median(rates)
+    size = (os.path.getsize(f"{name}.cnf") + os.path.getsize(f"{name}.lrat")) / 1e6
+    checked, whole = (statistics.median(seconds[part]) for part in ("check", "export"))
+    rate = size / max(whole - checked, 0.001)
     found = calls.faults(f"{name}.cnf", f"{name}.lrat")
     held = rate >= RATE and not found
-    print(f"speed: export of {steps:,} steps: {size:.0f} MB, {rate:.0f} MB in a second (the check is part of it), "
-          f"{most:.0f} MB of memory, {'; '.join(found) or 'verified'}, {'held' if held else 'NOT HELD'}")
+    print(f"speed: export of {steps:,} steps: {size:.0f} MB in {whole:.2f} s, of which the check takes {checked:.2f}: "
+          f"{rate:.0f} MB in a second; {most:.0f} MB of memory, {'; '.join(found) or 'verified'}, "
+          f"{'held' if held else 'NOT HELD'}")
     return held
 
 
@@ -390,8 +392,9 @@ def speed(calls, folder, steps, runs):
 def main():
     words = argparse.ArgumentParser(description=__doc__.splitlines()[0])
     words.add_argument("--checker", required=True, help="called as CHECKER CNF LRAT; it prints `s VERIFIED`")
-    words.add_argument("--program", default=str(TOP / "out" / "argue"), help="the built program; ./argue builds this one")
-    words.add_argument("--picosat", default=shutil.which("picosat.trace") or "picosat.trace")
+    built = str(TOP / "out" / "argue")
+    words.add_argument("--program", default=built, help="the built program, else ./argue builds it")
+    words.add_argument("--picosat", default="picosat", help="one that was built with traces")
     words.add_argument("--only", choices=("export", "traces", "speed"))
     words.add_argument("--runs", type=int, default=5)
     words.add_argument("--steps", type=int, default=1_000_000)
@@ -399,7 +402,7 @@ def main():
     words.add_argument("--no-export", action="store_true", help="nothing is exported")
     words.add_argument("--keep", help="a folder for the files, else a temporary one")
     given = words.parse_args()
-    if given.program == str(TOP / "out" / "argue") and not (given.no_lrat and given.no_export):
+    if given.program == built and not (given.no_lrat and given.no_export):
         if os.system(f"'{TOP / 'argue'}' >/dev/null") != 0:
             sys.exit("bench: ./argue doesn't run")
     calls, held = Calls(given), True
