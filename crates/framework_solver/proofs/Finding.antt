@@ -302,11 +302,11 @@ module _ (f : Framework) (log : OracleLog) (goals values : List AtomLit) (set : 
         low = omega arith;
         high = omega (arith, length-map log.sides (λ (side : SideClause). side.literals));
         true_there = subst (λ clause. IsTrueAlone (world_of f set) clause) (sym (side_literals log.sides n named))
-        (record {
-          literal = found.0;
-          member = member;
-          says = tells_holds found.0 (speaks found.0 member) found.2;
-        });
+            (record {
+              literal = found.0;
+              member = member;
+              says = tells_holds found.0 (speaks found.0 member) found.2;
+            });
       })
       (Contains-cons_cases (denied (Ask n)) (side_at log.sides n).literals found.0 (used.2.there found.0 found.1))
 

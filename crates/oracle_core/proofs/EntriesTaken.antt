@@ -192,7 +192,7 @@ taking_more own first now after left_first left new gave_first gave gave_new ent
       more = gave_more gave_first gave gave_new entry h.more gives_more;
       steps = steps_more own first now after gave gave_new entry gives_more h.framework h.steps steps;
       given = λ waiting is. some_more f own waiting left new entry first.solver.log now.solver.log after.solver.log
-      count
+          count
           (h.given waiting is) gives h.in_force (any_side now.solver.log after.solver.log grows)
           (subst (λ g. ImportsOrMayNot g own entry now.solver.log after.solver.log) (ap framework_of h.framework)
           comes);
