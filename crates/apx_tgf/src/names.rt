@@ -3,6 +3,7 @@
 ghost use Rattle.std.specs.Prelude.{◌≡◌, ℕ, ◌≤◌, ◌<◌, [], length, slice_get, Contains, Some, IfSome, IfNone, OnOk, OnErr};
 ghost use Rattle.apx_tgf.specs.Names.{IsNumberOf, with_name};
 
+use crate::word::{short_word, spelled_number};
 use indexmap::IndexSet;
 use lists::Memory;
 use std::alloc::Global;
@@ -15,21 +16,27 @@ use std::marker::Model;
 /// longer.
 pub struct Names<'a> {
     names: IndexSet<&'a [u8]>,
+    // What `short_word` gives of each.
+    words: Vec<u64>,
 }
 
 // By hand, so that a drop is one call (docs/PROVING.md).
 impl<'a> Drop for Names<'a> {
     fn drop(self) {
-        let Self { names } = self;
+        let Self { names, words } = self;
     }
 }
 
 impl<'a> Model for Names<'a> {
     ghost use Rattle.std.specs.Prelude.{List, ℕ, map};
+    ghost use Rattle.std.specs.List.{AllZip};
+    ghost use Rattle.apx_tgf.specs.Words.{HasWord};
 
     ghost Value = { List (List ℕ) };
 
     ghost view = { λ n. map (λ name. name.now) n.names.keys };
+
+    ghost invariant = { λ n. AllZip HasWord (map (λ name. name.now) n.names.keys) n.words.items };
 }
 
 impl<'a> Names<'a> {
@@ -39,6 +46,7 @@ impl<'a> Names<'a> {
     {
         Names {
             names: IndexSet::new(alloc),
+            words: Vec::new(alloc),
         }
     }
 
@@ -47,7 +55,10 @@ impl<'a> Names<'a> {
         ensures ok { OnOk result (self.new ≡ with_name self.old name.now) }
         ensures err { OnErr result (self.new ≡ self.old) }
     {
-        self.names.insert(name)?;
+        self.words.reserve(1)?;
+        if self.names.insert(name)? {
+            self.words.push_reserved(short_word(name));
+        }
         Ok(())
     }
 
@@ -60,6 +71,35 @@ impl<'a> Names<'a> {
 
     /// The number of a name, if it is one of these names.
     pub fn number_of(&self, name: &[u8]) -> Option<usize>
+        ensures some { IfSome result (IsNumberOf self.now name.now) }
+        ensures within { IfSome result (λ number. number ≤ length self.now) }
+        ensures none { IfNone result (¬ Contains self.now name.now) }
+    {
+        match self.guessed_number(name) {
+            Some(number) => Some(number),
+            None => self.find_number(name),
+        }
+    }
+
+    // The number that the name spells, if it is the number of this name too: arguments are often named in their order.
+    #[inline(always)]
+    fn guessed_number(&self, name: &[u8]) -> Option<usize>
+        ensures some { IfSome result (IsNumberOf self.now name.now) }
+        ensures within { IfSome result (λ number. number ≤ length self.now) }
+    {
+        let number = spelled_number(name);
+        if number == 0 || number > self.words.len() {
+            return None;
+        }
+        let word = short_word(name);
+        if word == 0 || self.words[number - 1] != word {
+            return None;
+        }
+        Some(number)
+    }
+
+    // The number of a name, by a look-up.
+    fn find_number(&self, name: &[u8]) -> Option<usize>
         ensures some { IfSome result (IsNumberOf self.now name.now) }
         ensures within { IfSome result (λ number. number ≤ length self.now) }
         ensures none { IfNone result (¬ Contains self.now name.now) }
