@@ -75,19 +75,23 @@ impl<'a> Names<'a> {
         ensures within { IfSome result (λ number. number ≤ length self.now) }
         ensures none { IfNone result (¬ Contains self.now name.now) }
     {
-        match self.guessed_number(name) {
-            Some(number) => Some(number),
-            None => self.find_number(name),
+        let spelled = spelled_number(name);
+        if let Some(number) = self.guessed(name, spelled) {
+            return Some(number);
         }
+        if let Some(number) = self.guessed(name, spelled.saturating_add(1)) {
+            return Some(number);
+        }
+        self.find_number(name)
     }
 
-    // The number that the name spells, if it is the number of this name too: arguments are often named in their order.
+    // The number that is guessed, if it is the number of this name. Arguments are often named in their order, from 1 or
+    // from 0.
     #[inline(always)]
-    fn guessed_number(&self, name: &[u8]) -> Option<usize>
+    fn guessed(&self, name: &[u8], number: usize) -> Option<usize>
         ensures some { IfSome result (IsNumberOf self.now name.now) }
         ensures within { IfSome result (λ number. number ≤ length self.now) }
     {
-        let number = spelled_number(name);
         if number == 0 || number > self.words.len() {
             return None;
         }
