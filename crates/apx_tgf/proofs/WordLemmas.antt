@@ -1,6 +1,7 @@
 -- Words that stand for short names.
-use Rattle.std.proofs.Common.{◌≡◌, ℕ, zero, suc, ◌+◌, ◌*◌, ◌^◌, ◌<◌, ◌≤◌, List, [], ◌∷◌, ◌++◌, length, take, get_or, map, refl, sym, ap, subst, ◌∙◌, inl, inr, arith, add-one}
-use Rattle.std.specs.Prelude.{All, Some}
+use Rattle.std.proofs.Common.{◌≡◌, ℕ, zero, suc, Bool, true, false, not, ◌+◌, ◌*◌, ◌^◌, ◌<◌, ◌≤◌, List, [], ◌∷◌, ◌++◌, length, take, get_or, map, refl, sym, ap, subst, ◌∙◌, inl, inr, arith, add-one}
+use Rattle.std.specs.Prelude.{All, Some, if◌then◌else◌}
+use Rattle.std.proofs.lemmas.Bool.{true≢false}
 use Rattle.std.specs.List.{AllZip, fold}
 use Rattle.std.proofs.lemmas.List.{take_more, map-append}
 use Rattle.std.proofs.lemmas.List.Elements.{All-head, All-tail}
@@ -82,11 +83,11 @@ zip_at R (x ∷ xs) (y ∷ ys) zero d e all within = all.0
 zip_at R (x ∷ xs) (y ∷ ys) (suc k) d e all within = zip_at R xs ys k d e all.1 (omega arith)
 
 -- a name with the word of the name that has a number is that name
-pub word_found : (names : List (List ℕ)) (words : List ℕ) (name : List ℕ) (k word : ℕ)
-    → AllZip HasWord names words → k < length names → (word ≡ 0 → ⊥) → HasWord name word → get_or words k 0 ≡ word
+pub word_found : (names : List (List ℕ)) (words : List ℕ) (name : List ℕ) (k word d : ℕ)
+    → AllZip HasWord names words → k < length names → (word ≡ 0 → ⊥) → HasWord name word → get_or words k d ≡ word
     → IsNumberOf names name (k + 1)
-word_found names words name k word all within some has at =
-    let there = subst (λ w. HasWord (get_or names k name) w) at (zip_at HasWord names words k name 0 all within) in
+word_found names words name k word d all within some has at =
+    let there = subst (λ w. HasWord (get_or names k name) w) at (zip_at HasWord names words k name d all within) in
     record {
       index = k;
       number_is = refl;
@@ -94,11 +95,15 @@ word_found names words name k word all within some has at =
           ∙ ap (λ t. Some t) (has_same (get_or names k name) name word some there has);
     }
 
--- a key that was put in, and its word
+-- the words of the names after a new key was put in
 pub words_put : {X : Type 0} (text : X → List ℕ) (k : X) (keys new : List X) (words more : List ℕ) (word : ℕ)
-    → AllZip HasWord (map text keys) words → new ≡ keys ++ k ∷ [] → HasWord (text k) word → more ≡ words ++ word ∷ []
-    → AllZip HasWord (map text new) more
-words_put text k keys new words more word all is has more_is =
+    (there added : Bool) → AllZip HasWord (map text keys) words
+    → new ≡ (if there then keys else keys ++ k ∷ []) → added ≡ not there → added ≡ true → HasWord (text k) word
+    → more ≡ words ++ word ∷ [] → AllZip HasWord (map text new) more
+words_put text k keys new words more word true added all is says yes has more_is =
+    absurd (true≢false (sym yes ∙ says))
+words_put text k keys new words more word false added all is says yes has more_is =
     subst (λ ws. AllZip HasWord (map text new) ws) (sym more_is)
-    (subst (λ ns. AllZip HasWord ns (words ++ word ∷ [])) (sym (ap (λ ks. map text ks) is ∙ map-append text keys (k ∷ [])))
+    (subst (λ ns. AllZip HasWord ns (words ++ word ∷ []))
+    (sym (ap (λ ks. map text ks) is ∙ map-append text keys (k ∷ [])))
     (zip_push HasWord (map text keys) words (text k) word all has))

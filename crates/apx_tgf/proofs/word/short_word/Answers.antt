@@ -30,10 +30,3 @@ loop-byte-preserved c =
           c.loop-byte.invariant.ascii (omega (arith, c.if-byte-ge128.false));
       below = room.0;
     }
-
--- the whole name has this word
-pub overflow_mul-word-2 : goal.overflow_mul-word-2
-overflow_mul-word-2 c =
-    let fits = word_fits c.loop-byte.word c.loop-byte.byte-index c.loop-byte.invariant.below
-    (omega (arith, c.loop-byte.auto.byte-index-end, c.if-name-gt-MOST.false)) in
-    omega (arith, fits)
