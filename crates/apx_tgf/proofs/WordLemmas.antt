@@ -100,9 +100,9 @@ pub words_put : {X : Type 0} (text : X → List ℕ) (k : X) (keys new : List X)
     (there added : Bool) → AllZip HasWord (map text keys) words
     → new ≡ (if there then keys else keys ++ k ∷ []) → added ≡ not there → added ≡ true → HasWord (text k) word
     → more ≡ words ++ word ∷ [] → AllZip HasWord (map text new) more
-words_put text k keys new words more word true added all is says yes has more_is =
-    absurd (true≢false (sym yes ∙ says))
-words_put text k keys new words more word false added all is says yes has more_is =
+words_put text k keys new words more word true added all is says was_new has more_is =
+    absurd (true≢false (sym was_new ∙ says))
+words_put text k keys new words more word false added all is says was_new has more_is =
     subst (λ ws. AllZip HasWord (map text new) ws) (sym more_is)
     (subst (λ ns. AllZip HasWord ns (words ++ word ∷ []))
     (sym (ap (λ ks. map text ks) is ∙ map-append text keys (k ∷ [])))
