@@ -34,13 +34,6 @@ room_for_byte word n byte below few ascii =
     let eight : 128 ^ 8 ≡ 72057594037927936 = refl in
     (omega arith, omega arith)
 
--- the word of at most eight bytes leaves room for their number
-pub word_fits : (word n : ℕ) → word < 128 ^ n → n ≤ 8 → word < 2 ^ 56
-word_fits word n below few =
-    let fits : 128 ^ n ≤ 128 ^ 8 = pow-le-pow_right (omega arith) few in
-    let eight : 128 ^ 8 ≡ 72057594037927936 = refl in
-    omega arith
-
 -- ---- one text for a word
 
 same_fold : (v w : ℕ) (xs ys : List ℕ) → length xs ≡ length ys → All (λ byte. byte < 128) xs

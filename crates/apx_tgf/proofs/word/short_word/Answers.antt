@@ -1,10 +1,6 @@
-use Rattle.std.proofs.Common.{◌≡◌, ◌<◌, length, take, refl, sym, subst, ◌∙◌, inl, inr, arith, ap}
-use Rattle.std.specs.Prelude.{All}
-use Rattle.std.specs.List.{fold}
-use Rattle.std.proofs.lemmas.List.{take_all}
+use Rattle.std.proofs.Common.{◌<◌, arith}
 use Rattle.std.proofs.lemmas.List.Elements.{All-more}
-use Rattle.apx_tgf.specs.Words.{with_byte}
-use Rattle.apx_tgf.proofs.WordLemmas.{word_more, room_for_byte, word_fits}
+use Rattle.apx_tgf.proofs.WordLemmas.{word_more, room_for_byte}
 use Rattle.apx_tgf.proofs.word.short_word.Goals as goal
 
 pub overflow_mul-word : goal.overflow_mul-word
