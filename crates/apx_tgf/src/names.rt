@@ -12,8 +12,8 @@ use std::marker::Model;
 /// Names in the order in which they came, each once: the first has number 1. A name is a part of the text that was
 /// read.
 ///
-/// A look-up guesses first that a short name ends in its number, from 1 or from 0, as names often do. Else it hashes the
-/// name, by a hash that is the same in each run, so that a text can be made on which look-ups take longer.
+/// A look-up guesses first that a short name ends in its number, from 1 or from 0, as names often do. Else it hashes
+/// the name, by a hash that is the same in each run, so that a text can be made on which look-ups take longer.
 pub struct Names<'a> {
     names: IndexSet<&'a [u8]>,
     // What `short_word` gives of each name.
