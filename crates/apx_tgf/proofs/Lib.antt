@@ -11,4 +11,5 @@ pub mod TextLemmas
 pub mod TgfLemmas
 pub mod ToldLemmas
 pub mod TokenLemmas
+pub mod WordLemmas
 pub mod WrittenLemmas

@@ -9,4 +9,5 @@ pub mod Taking
 pub mod TgfText
 pub mod Told
 pub mod Views
+pub mod Words
 pub mod Written

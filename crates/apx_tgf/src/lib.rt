@@ -23,6 +23,7 @@ mod read;
 mod tgf_line;
 mod token;
 mod told;
+mod word;
 mod write;
 
 pub use fault::{NameCause, NameFault, ReadFault};

@@ -3,6 +3,7 @@
 ghost use Rattle.std.specs.Prelude.{◌≡◌, ℕ, ◌≤◌, ◌<◌, [], length, slice_get, Contains, Some, IfSome, IfNone, OnOk, OnErr};
 ghost use Rattle.apx_tgf.specs.Names.{IsNumberOf, with_name};
 
+use crate::word::{short_word, spelled_number};
 use indexmap::IndexSet;
 use lists::Memory;
 use std::alloc::Global;
@@ -11,25 +12,31 @@ use std::marker::Model;
 /// Names in the order in which they came, each once: the first has number 1. A name is a part of the text that was
 /// read.
 ///
-/// A look-up hashes the name by a hash that is the same in each run, so that a text can be made on which look-ups take
-/// longer.
+/// A look-up guesses first that a short name ends in its number, from 1 or from 0, as names often do. Else it hashes
+/// the name, by a hash that is the same in each run, so that a text can be made on which look-ups take longer.
 pub struct Names<'a> {
     names: IndexSet<&'a [u8]>,
+    // What `short_word` gives of each name.
+    words: Vec<u64>,
 }
 
 // By hand, so that a drop is one call (docs/PROVING.md).
 impl<'a> Drop for Names<'a> {
     fn drop(self) {
-        let Self { names } = self;
+        let Self { names, words } = self;
     }
 }
 
 impl<'a> Model for Names<'a> {
     ghost use Rattle.std.specs.Prelude.{List, ℕ, map};
+    ghost use Rattle.std.specs.List.{AllZip};
+    ghost use Rattle.apx_tgf.specs.Words.{HasWord};
 
     ghost Value = { List (List ℕ) };
 
     ghost view = { λ n. map (λ name. name.now) n.names.keys };
+
+    ghost invariant = { λ n. AllZip HasWord (map (λ name. name.now) n.names.keys) n.words.items };
 }
 
 impl<'a> Names<'a> {
@@ -39,6 +46,7 @@ impl<'a> Names<'a> {
     {
         Names {
             names: IndexSet::new(alloc),
+            words: Vec::new(alloc),
         }
     }
 
@@ -47,7 +55,10 @@ impl<'a> Names<'a> {
         ensures ok { OnOk result (self.new ≡ with_name self.old name.now) }
         ensures err { OnErr result (self.new ≡ self.old) }
     {
-        self.names.insert(name)?;
+        self.words.reserve(1)?;
+        if self.names.insert(name)? {
+            self.words.push_reserved(short_word(name));
+        }
         Ok(())
     }
 
@@ -60,6 +71,39 @@ impl<'a> Names<'a> {
 
     /// The number of a name, if it is one of these names.
     pub fn number_of(&self, name: &[u8]) -> Option<usize>
+        ensures some { IfSome result (IsNumberOf self.now name.now) }
+        ensures within { IfSome result (λ number. number ≤ length self.now) }
+        ensures none { IfNone result (¬ Contains self.now name.now) }
+    {
+        let spelled = spelled_number(name);
+        if let Some(number) = self.guessed(name, spelled) {
+            return Some(number);
+        }
+        if let Some(number) = self.guessed(name, spelled.saturating_add(1)) {
+            return Some(number);
+        }
+        self.find_number(name)
+    }
+
+    // The number that is guessed, if it is the number of this name. Arguments are often named in their order, from 1 or
+    // from 0.
+    #[inline(always)]
+    fn guessed(&self, name: &[u8], number: usize) -> Option<usize>
+        ensures some { IfSome result (IsNumberOf self.now name.now) }
+        ensures within { IfSome result (λ number. number ≤ length self.now) }
+    {
+        if number == 0 || number > self.words.len() {
+            return None;
+        }
+        let word = short_word(name);
+        if word == 0 || self.words[number - 1] != word {
+            return None;
+        }
+        Some(number)
+    }
+
+    // The number of a name, by a look-up.
+    fn find_number(&self, name: &[u8]) -> Option<usize>
         ensures some { IfSome result (IsNumberOf self.now name.now) }
         ensures within { IfSome result (λ number. number ≤ length self.now) }
         ensures none { IfNone result (¬ Contains self.now name.now) }

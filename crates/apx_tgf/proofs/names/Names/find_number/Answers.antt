@@ -2,7 +2,7 @@ use Rattle.std.proofs.Common.{◌+◌, sym, subst}
 use Rattle.std.specs.Prelude.{Contains, IfNone}
 use Rattle.apx_tgf.specs.Names.{IsNumberOf}
 use Rattle.apx_tgf.proofs.NameLemmas.{key_absent, key_found}
-use Rattle.apx_tgf.proofs.names.Names.number_of.Goals as goal
+use Rattle.apx_tgf.proofs.names.Names.find_number.Goals as goal
 
 pub returns-in_err-index-clause-none : goal.returns-in_err-index-clause-none
 returns-in_err-index-clause-none c =
