@@ -8,6 +8,7 @@ ghost use Rattle.session_core.specs.Following.{CatchesUp};
 
 use edit_history::Change;
 use edit_rules::Effect;
+use framework_solver::UpdateStop;
 use lists::Memory;
 use oracle_core::Engine;
 use std::alloc::Global;
