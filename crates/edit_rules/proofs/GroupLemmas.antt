@@ -53,7 +53,7 @@ taken_behind f [] more (effect ∷ effects) others long is = absurd (omega (arit
 taken_behind f (edit ∷ edits) more [] others long is = absurd (omega (arith, long))
 taken_behind f (edit ∷ edits) more (effect ∷ effects) others long is =
     let first = first_taken (edit_outcome f edit) (group_told (after_edit f edit) (edits ++ more))
-        (effect ∷ effects ++ others) is in
+    (effect ∷ effects ++ others) is in
     let rest : first.1 ≡ effects ++ others = cc in
     taken_behind (after_edit f edit) edits more effects others (omega (arith, long)) (first.3 ∙ ap Ok rest)
 
@@ -74,8 +74,10 @@ refused_at f [] edit more effects fault is last =
     ap (λ o. told_first o (group_told (after_edit f edit) more)) last
 refused_at f (x ∷ edits) edit more effects fault is last =
     let first = first_taken (edit_outcome f x) (group_told (after_edit f x) edits) effects is in
+    let place : length edits + 1 + 1 ≡ length (x ∷ edits) + 1 = omega arith in
     ap (λ o. told_first o (group_told (after_edit f x) (edits ++ edit ∷ more))) first.2
     ∙ ap (λ r. told_first (Ok first.0) r) (refused_at (after_edit f x) edits edit more first.1 fault first.3 last)
+    ∙ ap (λ n. Err (n, fault)) place
 
 -- ---- what is taken
 
