@@ -3,7 +3,7 @@
 ghost use Rattle.std.specs.Prelude.{◌≡◌, ◌≤◌, ◌+◌, [], length, drop, IfErr, IfOk, OnErr};
 ghost use Rattle.edit_rules.specs.Kinds.{framework_of};
 ghost use Rattle.turn_lock.specs.Turns.{Continues};
-ghost use Rattle.edit_history.specs.Entries.{FaultSays, IsAdded, session_of};
+ghost use Rattle.edit_history.specs.Entries.{FaultSays, IsAdded, edit_count, session_of};
 ghost use Rattle.edit_history.specs.Journals.{history_of, opening_of};
 
 use crate::entry::Change;
@@ -61,7 +61,7 @@ impl Journal {
         edits: &[Edit],
         front: u64,
     ) -> Result<Items<Effect>, CommitFault>
-        requires room { self.old.count + length edits.now ≤ self.old.limit }
+        requires room { edit_count (history_of self.old) + length edits.now ≤ self.old.limit }
         requires front { front ≡ length (history_of self.old) }
         ensures opening { opening_of self.new ≡ opening_of self.old }
         ensures continued { Continues session_of session (history_of self.old) (history_of self.new) }
@@ -73,17 +73,16 @@ impl Journal {
     {
         // Room comes first: behind the edits nothing may fail, since nothing would take them back.
         self.changes.reserve(1)?;
-        match apply_group(alloc, &mut self.framework, edits) {
-            Ok(effects) => {
-                self.count += edits.len() as u64;
-                self.changes.push_reserved(Change {
-                    session,
-                    effects: effects.kept,
-                });
-                Ok(effects.told)
-            }
-            Err(fault) => Err(fault_at(fault, front)),
-        }
+        let effects = match apply_group(alloc, &mut self.framework, edits) {
+            Ok(effects) => effects,
+            Err(fault) => return Err(fault_at(fault, front)),
+        };
+        self.count += edits.len() as u64;
+        self.changes.push_reserved(Change {
+            session,
+            effects: effects.kept,
+        });
+        Ok(effects.told)
     }
 
     /// The entries after the first `from`, each with its effects.
