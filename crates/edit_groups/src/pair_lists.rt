@@ -34,9 +34,9 @@ pub(crate) fn insert_all(plain: &mut AfPlain, pairs: &[(u32, u32)]) -> Result<()
 /// Adds the attack of the pair at an index. Where there is no memory, those of the pairs before it are taken away.
 fn insert_at(plain: &mut AfPlain, pairs: &[(u32, u32)], index: usize) -> Result<(), Memory>
     requires index { index < length pairs.now }
-    requires live { (d : ℕ × ℕ) → Contains plain.old.live (slice_index_or pairs.now index d).0
-        × Contains plain.old.live (slice_index_or pairs.now index d).1 }
-    ensures done { (d : ℕ × ℕ) → OnOk result (HasGained (slice_index_or pairs.now index d ∷ []) plain.old plain.new) }
+    requires live { Contains plain.old.live (slice_index_or pairs.now index (0, 0)).0
+        × Contains plain.old.live (slice_index_or pairs.now index (0, 0)).1 }
+    ensures done { OnOk result (HasGained (slice_index_or pairs.now index (0, 0) ∷ []) plain.old plain.new) }
     ensures kept { OnErr result (HasLost (take index pairs.now) plain.old plain.new) }
 {
     let pair = pairs[index];
