@@ -52,6 +52,11 @@ tested_alike ps qs p to from =
     (λ n. n ∙ sym (is_false (has_pair qs p) (λ t. false≢true (sym n ∙ there_pair ps p (from (pair_there qs p t))))))
     (cases_Bool (has_pair ps p))
 
+-- a test that is true exactly of pairs that are there
+pub test_is : (r : Bool) (ps : List (ℕ × ℕ)) (p : ℕ × ℕ) → (r ≡ true) ↔ Contains ps p → r ≡ has_pair ps p
+test_is true ps p iff = sym (there_pair ps p (iff.0 refl))
+test_is false ps p iff = sym (is_false (has_pair ps p) (λ t. false≢true (iff.1 (pair_there ps p t))))
+
 -- ---- one edit
 
 -- the tests of the ends are those of each framework with the same live arguments
