@@ -1,7 +1,7 @@
 -- What edits tell that are made one after another, and how a group is added to them.
 use Rattle.std.proofs.Common.{arith, ◌≡◌, ◌∙◌, ℕ, zero, suc, ◌+◌, List, [], ◌∷◌, ◌++◌, map, take, drop, length}
 use Rattle.std.proofs.Common.{Ok, refl, sym, ap, subst}
-use Rattle.std.specs.Prelude.{◌<◌, ◌≤◌}
+use Rattle.std.specs.Prelude.{◌<◌, ◌≤◌, ◌-◌}
 use Rattle.std.specs.List.{flat_map}
 use Rattle.std.proofs.lemmas.List.{append-nil, append_assoc, length-append, length-map, map-append}
 use Rattle.std.proofs.lemmas.List.Elements.{All-from_recursion}
@@ -116,3 +116,15 @@ pub one_effect : (f : Framework) (edit : Edit) (effects : List Effect) → group
     → length effects ≡ 1
 one_effect f edit effects is =
     sym (length-map effects (λ (e : Effect). e.edit)) ∙ ap length (group_edits f (edit ∷ []) effects is)
+
+-- what the two numbers of a journal say of its room
+pub room_for : (limit count : ℕ) (entries : List HistoryEntry) (edits : List Edit) → count ≡ edit_count entries
+    → count ≤ limit → length edits ≤ limit - count → edit_count entries + length edits ≤ limit
+room_for limit count entries edits counted within fits = omega (arith, counted)
+
+pub no_room_for : (limit count : ℕ) (entries : List HistoryEntry) (edits : List Edit) → count ≡ edit_count entries
+    → count ≤ limit → limit - count < length edits → limit < edit_count entries + length edits
+no_room_for limit count entries edits counted within more = omega (arith, counted)
+
+pub front_is : (changes : List Change) → length changes ≡ length (entries_in changes)
+front_is changes = sym (length-map changes entry_of)

@@ -47,7 +47,8 @@ impl Journal {
             edits.now) }
     {
         let front = self.changes.len() as u64;
-        if edits.len() as u64 > self.limit - self.count {
+        let room = self.limit - self.count;
+        if edits.len() as u64 > room {
             return Err(CommitFault::HistoryFull(front));
         }
         self.add(alloc, session, edits, front)
