@@ -119,11 +119,11 @@ one_effect f edit effects is =
 
 -- what the two numbers of a journal say of its room
 pub room_for : (limit count : ℕ) (entries : List HistoryEntry) (edits : List Edit) → count ≡ edit_count entries
-    → count ≤ limit → length edits ≤ limit - count → edit_count entries + length edits ≤ limit
+    → edit_count entries ≤ limit → length edits ≤ limit - count → edit_count entries + length edits ≤ limit
 room_for limit count entries edits counted within fits = omega (arith, counted)
 
 pub no_room_for : (limit count : ℕ) (entries : List HistoryEntry) (edits : List Edit) → count ≡ edit_count entries
-    → count ≤ limit → limit - count < length edits → limit < edit_count entries + length edits
+    → edit_count entries ≤ limit → limit - count < length edits → limit < edit_count entries + length edits
 no_room_for limit count entries edits counted within more = omega (arith, counted)
 
 pub front_is : (changes : List Change) → length changes ≡ length (entries_in changes)

@@ -17,7 +17,7 @@ pub struct Journal {
     pub(crate) changes: Vec<Change>,
     pub(crate) count: u64,
     ghost counted: { count ≡ edit_count (entries_in changes.items) },
-    ghost within: { count ≤ limit },
+    ghost within: { edit_count (entries_in changes.items) ≤ limit },
     ghost done: { AreDone (framework_of opening) changes.items },
     ghost replayed: { framework_of framework ≡ framework_after (framework_of opening) (entries_in changes.items) },
 }

@@ -1,4 +1,4 @@
-use Rattle.std.proofs.Common.{◌≡◌, ◌∙◌, ◌+◌, ◌≤◌, ap, sym, length, subst}
+use Rattle.std.proofs.Common.{◌≡◌, ◌∙◌, ◌+◌, ◌≤◌, ap, length, subst}
 use Rattle.edit_rules.specs.Kinds.{framework_of}
 use Rattle.edit_history.proofs.EntryLemmas.{committed, continues}
 use Rattle.edit_history.proofs.journal.Journal.add.Goals as goal
@@ -12,7 +12,7 @@ invariant_of-self-2 c =
     rw (c.push_reserved.ensures.items, c.reserve.ensures.items)
     (record {
       counted = ap (λ n. n + length c.args.edits.now) self.counted ∙ longer.counted;
-      within = subst (λ n. n + length c.args.edits.now ≤ self.limit) (sym self.counted) c.requires.room;
+      within = subst (λ n. n ≤ self.limit) longer.counted c.requires.room;
       done = longer.done;
       replayed = longer.replayed;
     })
