@@ -9,7 +9,8 @@ use Rattle.argue_outside.specs.declared.Role.TheVariants as role
 use Rattle.argue_words.specs.Words.{AfTexts, CheckTexts, LiveTexts, NamesTexts, Request, SolveTexts, version, problems}
 use Rattle.argue_words.specs.Words.{solving, checking, living, benching, by_name, numbering, unknown, bench_texts}
 use Rattle.argue_words.specs.Words.{command_named, live_texts, request_of, requested}
-use Rattle.argue_words.proofs.RequestLaws.{input_requested, no_name_in, none_requested, script_requested}
+use Rattle.argue_words.proofs.RequestLaws.{input_requested, none_requested, script_requested}
+use Rattle.argue_words.proofs.RequestNames.{no_name_in}
 use Rattle.argue_words.specs.declared.words.CommandName.TheVariants as command
 use Rattle.argue_words.specs.declared.words.Command.{Command}
 use Rattle.argue_words.specs.declared.words.Command.TheVariants.{Bench, Live}
