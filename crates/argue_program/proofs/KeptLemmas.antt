@@ -168,7 +168,7 @@ write_fault_or (ReadFault r) = inr (λ e. cc)
 write_fault_or WantOfMemory = inr (λ e. cc)
 write_fault_or Unknown = inr (λ e. cc)
 write_fault_or (Limit l) = inr (λ e. cc)
-write_fault_or (Rejected failure r s) = inr (λ e. cc)
+write_fault_or (Rejected rejection) = inr (λ e. cc)
 
 -- what is decided and then written is a run
 pub IsRunOf-written : (words : List (List ℕ)) (seen : Seen) (ended : Ended) (ending : Ending) (count : Role → ℕ)

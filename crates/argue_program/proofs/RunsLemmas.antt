@@ -101,7 +101,7 @@ no_why found (InputRefused refusal) one why stops = why
 no_why found (ReadFault r) one why stops = why
 no_why found WriteFault one why stops = why
 no_why found WantOfMemory one why stops = why
-no_why found (Rejected failure r s) one why stops = why
+no_why found (Rejected rejection) one why stops = why
 
 no_first_why : (found : Reading) (end : Status) (inputs : List Input) → SaysWhy end → ¬ StopsAtFirst found end inputs
 no_first_why found end [] why stops = stops
@@ -119,7 +119,7 @@ no_check_why f asked answer certificate (InputRefused refusal) why ends = why
 no_check_why f asked answer certificate (ReadFault r) why ends = why
 no_check_why f asked answer certificate WriteFault why ends = why
 no_check_why f asked answer certificate WantOfMemory why ends = why
-no_check_why f asked answer certificate (Rejected failure r s) why ends = why
+no_check_why f asked answer certificate (Rejected rejection) why ends = why
 
 not_why : (end other : Status) → SaysWhy end → (SaysWhy other → ⊥) → end ≢ other
 not_why end other why none is = none (subst SaysWhy is why)
@@ -257,7 +257,7 @@ no_files files WriteFault other = refl
 no_files files WantOfMemory other = refl
 no_files files Unknown other = refl
 no_files files (Limit l) other = refl
-no_files files (Rejected failure r s) other = refl
+no_files files (Rejected rejection) other = refl
 
 module _ (words : List (List ℕ)) (seen : Seen) (ended : Ended) (run : IsRunOf words seen ended) where
   ends : ended.status ≢ WriteFault

@@ -18,7 +18,6 @@ use Rattle.argue_words.specs.Words.{names_app, names_request, names_requested, r
 use Rattle.argue_words.specs.Words.{solve_request, solve_requested, task_app, words_are_problems}
 use Rattle.argue_words.specs.Words.AreWords.{for_lrat}
 use Rattle.argue_words.specs.Words.AreWords.{for_af, for_bench, for_check, for_list, for_live, for_names, for_none}
-use Rattle.argue_words.specs.Words.AreWords.{for_lrat}
 use Rattle.argue_words.specs.Words.AreWords.{for_solve}
 use Rattle.argue_words.specs.declared.words.CommandName.TheVariants as command
 use Rattle.argue_words.proofs.RequestNames.{named_word, IsOf, IsOfSolve, solve_same, check_same, live_same}

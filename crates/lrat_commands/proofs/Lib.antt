@@ -1,0 +1,2 @@
+pub mod CnfFaults
+pub mod VerifyingLemmas
