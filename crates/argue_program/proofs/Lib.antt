@@ -1,5 +1,6 @@
 mod EndsLemmas
 mod LargeLemmas
+mod LratLemmas
 mod NamesLemmas
 mod ScriptLemmas
 pub mod KeptLemmas

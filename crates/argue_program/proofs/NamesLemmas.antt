@@ -67,6 +67,8 @@ names_sound format file bytes names f reads line (cause.Framework c) first = fir
 names_sound format file bytes names f reads line (cause.Script c) first = first
 names_sound format file bytes names f reads line (cause.Answer c) first = first
 names_sound format file bytes names f reads line (cause.Certificate c) first = first
+names_sound format file bytes names f reads line (cause.Cnf c) first = first
+names_sound format file bytes names f reads line (cause.Lrat c) first = first
 
 -- what the known bytes of a file read as
 reads_at : (known : KnownFile) (format : NameFormat) (bytes : List ℕ) (names : List (List ℕ)) (f : Af)

@@ -4,26 +4,30 @@ use Rattle.std.proofs.Common.{inr, ⊎_elim, true, Option, None, Some, Ok, map}
 use Rattle.std.specs.Io.KnownBytes.{Appends}
 use Rattle.argue_outside.specs.Outside.{FaultCounted, KnownFile}
 use Rattle.argue_outside.specs.declared.Role.{Role}
-use Rattle.argue_outside.specs.declared.Role.TheVariants.{Framework, Script as OfScript}
+use Rattle.argue_outside.specs.declared.Role.TheVariants.{Framework, Script as OfScript, Cnf as OfCnf}
 use Rattle.argue_words.specs.Words.{AfTexts, AreWords, BenchTexts, CheckTexts, IsAfQuery, IsBenchQuery, IsCheckQuery}
-use Rattle.argue_words.specs.Words.{IsLiveQuery, IsNamesQuery, IsSolveQuery, LiveTexts, NamesTexts, Request, SolveTexts}
-use Rattle.argue_words.specs.Words.{version, problems, solving, checking, living, benching, by_name, numbering, unknown}
+use Rattle.argue_words.specs.Words.{IsLiveQuery, IsLratQuery, IsNamesQuery, IsSolveQuery, LiveTexts, LratTexts}
+use Rattle.argue_words.specs.Words.{NamesTexts, Request, SolveTexts}
+use Rattle.argue_words.specs.Words.{version, problems, solving, checking, living, benching, by_name, numbering, verifying}
+use Rattle.argue_words.specs.Words.{unknown}
 use Rattle.argue_words.specs.Words.{requested, words_are_problems}
 use Rattle.argue_words.proofs.RequestLaws.{names_requested_by, query_requested, requested_af, requested_input}
-use Rattle.argue_words.proofs.RequestLaws.{requested_list, requested_names, requested_none, requested_query}
+use Rattle.argue_words.proofs.RequestLaws.{requested_list, requested_lrat, requested_names, requested_none, requested_query}
 use Rattle.argue_words.proofs.RequestLaws.{requested_script, requested_texts, requested_unknown}
 use Rattle.apx_tgf.specs.declared.format.NameFormat.{NameFormat}
 use Rattle.named_commands.specs.NamedTexts.{named_reply}
 use Rattle.named_commands.specs.Namings.{format_named, naming_by, solving_of}
 use Rattle.named_commands.specs.Numberings.{IsNumberedOf}
 use Rattle.named_commands.specs.declared.naming.Naming.{Naming}
+use Rattle.lrat_text.specs.CnfText.{Formula}
+use Rattle.lrat_commands.specs.Verifying.{IsUnsatisfiableOf, LratEnds}
 use Rattle.semantics.specs.Framework.{Af}
 use Rattle.semantics.specs.Frameworks.{af}
 use Rattle.framework_text.specs.FrameworkText.{IsFaulty}
 use Rattle.argue_commands.specs.Inputs.{Input, Reading, StopsAt, StopsAtFirst}
 use Rattle.argue_commands.specs.Replacing.{FileText, certificate_files, file_text, WritesFiles}
 use Rattle.argue_program.specs.Rows.{EndsCommand, EndsLarge, EndsLive, EndsNamed, EndsSolved, HasNoInput, IsTextOf, Row}
-use Rattle.argue_program.specs.Rows.{SaysNamed, WritesText, af_row, bench_row, check_row, certificates_files}
+use Rattle.argue_program.specs.Rows.{SaysNamed, WritesText, lrat_row, af_row, bench_row, check_row, certificates_files}
 use Rattle.argue_program.specs.Rows.{files_beside, live_row, names_row, reply_files, reply_text, row_of, script_files}
 use Rattle.argue_program.specs.Rows.{script_kept, script_text, session_files, session_text, solve_row}
 use Rattle.iccma_tasks.specs.Tasks.{Asked}
@@ -51,6 +55,7 @@ use Rattle.argue_program.specs.Runs.{AnswersRight, AsksSession, AsksTranscript, 
 use Rattle.argue_program.specs.Runs.{IsCheckEnd, IsDoneOrMemory, IsFaultyScript, IsLiveEnd, IsRunOf, IsSolveEnd}
 use Rattle.argue_program.specs.Runs.{LivesContents, NamesCertificate, QueriesBytes, RefusesBytes, RefusesLength}
 use Rattle.argue_program.specs.Runs.{RefusesWords, ScriptsBytes, SolvesContents, SpendsBudget, WritesAnswer}
+use Rattle.argue_program.specs.Runs.{CnfBytes, IsFaultyCnf, IsLratEnd, LratContents}
 use Rattle.argue_program.specs.Runs.{WritesSummary, WritesTranscript, IsFaultyNamed, IsNamesEnd, NamedBytes}
 use Rattle.argue_program.specs.Runs.{NamesContents, NumbersContents, RefusesNamed, WritesNamed, WritesNumbered}
 use Rattle.argue_commands.specs.Texts.{common_text, text_bytes}
@@ -71,6 +76,7 @@ use Rattle.argue_program.proofs.EndsLemmas.{refuses_long_script, refuses_script,
 use Rattle.argue_commands.proofs.ReplacingLemmas.{HaveOtherNames, written_other, broken_other}
 use Rattle.argue_program.proofs.KeptLemmas.{asks_name, asks_number, ending_other, kept_at, output_fault, script_at, some_is}
 use Rattle.argue_program.proofs.KeptLemmas.{write_fault_or}
+use Rattle.argue_program.proofs.LratLemmas.{done_unsatisfiable, ends_lrat, refuses_cnf, refuses_long_cnf}
 use Rattle.argue_program.proofs.NamesLemmas.{EndsAsking, EndsInFormat, af_is_done, asking_in, ends_asking, ends_names}
 use Rattle.argue_program.proofs.NamesLemmas.{ends_numbering, numbering_in, refuses_long_names, refuses_named}
 
@@ -170,6 +176,17 @@ af_why : (holds : List ℕ → KnownFile) (by : Option NameFormat) (texts : AfTe
 af_why holds None texts kept end why unasked = not_why end Usage why (λ w. w) unasked.1
 af_why holds (Some format) texts kept end why numbered = not_why end Done why (λ w. w) numbered.ends
 
+lrat_why : (f : Formula) (bytes : List ℕ) (end : Status) → SaysWhy end → ¬ LratEnds f bytes end
+lrat_why f bytes Unknown why ends = ends
+lrat_why f bytes (Limit l) why ends = ends
+lrat_why f bytes Done why ends = why
+lrat_why f bytes Usage why ends = why
+lrat_why f bytes (InputRefused refusal) why ends = why
+lrat_why f bytes (ReadFault r) why ends = why
+lrat_why f bytes WriteFault why ends = why
+lrat_why f bytes WantOfMemory why ends = why
+lrat_why f bytes (Rejected rejection) why ends = why
+
 keeps_asked : (found : Reading) (words : List (List ℕ)) (request : Request) (kept : Transcript) (end : Status)
     → SaysWhy end → requested words ≡ request → EndsCommand found (row_of found.holds request) kept end
     → KeepsAsked words found.holds kept end
@@ -190,6 +207,8 @@ keeps_asked found words (by_name texts) kept end why asked (inr ends) =
     names_why found words texts (naming_by texts) kept end why (names_requested_by words texts asked) refl ends
 keeps_asked found words (numbering texts) kept end why asked (inr ends) =
     absurd (af_why found.holds (format_named texts.kind) texts kept end why ends)
+keeps_asked found words (verifying texts) kept end why asked (inr ends) =
+    absurd (lrat_why ends.1.formula ends.1.bytes end why ends.1.ends)
 keeps_asked found words (solving texts) kept end why asked (inr ends) =
     solve_why found words texts (solving_by texts) kept end why (query_requested words texts asked) refl ends
 
@@ -854,6 +873,43 @@ module _ (words : List (List ℕ)) (seen : Seen) (ended : Ended) (run : IsRunOf 
       (λ h. ⊎_elim (λ served. h.unserved served) (λ uncounted. uncounted h.counted) asks.no_fault) ended.status long
       (in_format format file bytes asks whole)) (write_fault_or ended.status)
 
+  -- ---- refutations
+
+  at_lrat : (texts : LratTexts) → IsLratQuery words texts → ended.status ≢ WriteFault
+      → EndsCommand seen.files (lrat_row seen.files.holds texts) ended.kept ended.status
+  at_lrat texts asks whole =
+      let P : Request → Type 0 = λ r. EndsCommand seen.files (row_of seen.files.holds r) ended.kept ended.status in
+      subst P (requested_lrat words texts asks) (ends whole)
+
+  -- where a check of a refutation is done, the CNF has no model
+  unsatisfiable : (texts : LratTexts) → IsLratQuery words texts → ended.status ≡ Done
+      → IsUnsatisfiableOf (seen.files.holds texts.cnf)
+  unsatisfiable texts asks done =
+      let P : Status → Type 0 = EndsCommand seen.files (lrat_row seen.files.holds texts) ended.kept in
+      done_unsatisfiable seen.files texts ended.kept
+      (subst P done (at_lrat texts asks (λ e. let x : Done ≡ WriteFault = sym done ∙ e in cc)))
+
+  complete_refutation : (texts : LratTexts) (f : Formula) (bytes : List ℕ)
+      → LratContents seen.files words texts f bytes → IsLratEnd f bytes ended.status
+  complete_refutation texts f bytes contents = ⊎_elim
+      (λ broken. let P : Status → Type 0 = IsLratEnd f bytes in subst P (sym broken) tt)
+      (λ whole. ends_lrat seen.files words texts f bytes contents ended.kept ended.status
+      (at_lrat texts contents.asks whole)) (write_fault_or ended.status)
+
+  faulty_formula : (texts : LratTexts) (bytes other : List ℕ) → CnfBytes seen.files words texts bytes other
+      → IsFaultyCnf bytes → length bytes ≤ MAX_INPUT → RefusesBytes OfCnf bytes ended.status
+  faulty_formula texts bytes other asks bad short = ⊎_elim
+      (λ broken. let P : Status → Type 0 = RefusesBytes OfCnf bytes in subst P (sym broken) tt)
+      (λ whole. refuses_cnf seen.files words texts bytes other asks ended.kept ended.status bad short
+      (at_lrat texts asks.asks whole)) (write_fault_or ended.status)
+
+  long_formula : (texts : LratTexts) (bytes other : List ℕ) → CnfBytes seen.files words texts bytes other
+      → MAX_INPUT < length bytes → RefusesLength ended.status
+  long_formula texts bytes other asks long = ⊎_elim
+      (λ broken. subst RefusesLength (sym broken) tt)
+      (λ whole. refuses_long_cnf seen.files words texts bytes other asks ended.kept ended.status long
+      (at_lrat texts asks.asks whole)) (write_fault_or ended.status)
+
   -- ---- all of it
 
   pub promises : Promises words seen ended
@@ -889,6 +945,10 @@ module _ (words : List (List ℕ)) (seen : Seen) (ended : Ended) (run : IsRunOf 
     no_format = no_numbered;
     faulty_names = faulty_named;
     long_names = long_named;
+    verified = unsatisfiable;
+    complete_lrat = complete_refutation;
+    faulty_cnf = faulty_formula;
+    long_cnf = long_formula;
     write_fault = write_fault;
     output_fault = output_fails;
     other_files = other_files;

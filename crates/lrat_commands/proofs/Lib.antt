@@ -1,2 +1,2 @@
-pub mod CnfFaults
+pub mod CnfReadings
 pub mod VerifyingLemmas

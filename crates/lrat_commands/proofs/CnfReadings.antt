@@ -1,4 +1,4 @@
--- A text that reads as a CNF has no fault.
+-- A text that reads as a CNF has no fault, and reads as no other.
 use Rattle.std.proofs.Common.{◌≡◌, ◌∙◌, ℕ, ◌<◌, ◌≤◌, ◌++◌, Bool, true, false, List, [], ◌∷◌, drop, get_or, length, refl, sym, ap, subst, inl, inr, arith}
 use Rattle.std.specs.Prelude.{Contains, Result, Ok, Err, codes, fold}
 use Rattle.std.specs.List.{AllZip}
@@ -80,21 +80,21 @@ no_cause vars fields before after ClauseCount leads stands = stands
 
 -- ---- one reading of a text
 
--- lines that lead to clauses lead to no fault
-reads_apart : (end vars count : ℕ) (c : Cut) (lines : List LineText) (clauses : List (List Lit)) (told : ℕ × CnfCause)
-    → ReadsTo end vars count c lines (Ok clauses) → ReadsTo end vars count c lines (Err told) → ⊥
-reads_apart end vars count c [] clauses told (inl whole) (inl other) =
-    let e : Err told ≡ Ok c.whole = other.1 in cc
-reads_apart end vars count c [] clauses told (inl whole) (inr other) = other.0 whole.0
-reads_apart end vars count c [] clauses told (inr broken) other =
+-- lines that lead to clauses lead to nothing else
+reads_so : (end vars count : ℕ) (c : Cut) (lines : List LineText) (clauses : List (List Lit))
+    (other : Result (List (List Lit)) (ℕ × CnfCause)) → ReadsTo end vars count c lines (Ok clauses)
+    → ReadsTo end vars count c lines other → other ≡ Ok clauses
+reads_so end vars count c [] clauses other (inl whole) (inl also) = also.1 ∙ sym whole.1
+reads_so end vars count c [] clauses other (inl whole) (inr broken) = absurd (broken.0 whole.0)
+reads_so end vars count c [] clauses other (inr broken) also =
     let e : Ok clauses ≡ Err (end, ClauseCount) = broken.1 in cc
-reads_apart end vars count c (line ∷ lines) clauses told (inl a) (inl b) =
+reads_so end vars count c (line ∷ lines) clauses other (inl a) (inl b) =
     let same : a.0 ≡ b.0 = one_lead vars (field_texts line.text) c a.0 b.0 a.1 b.1 in
-    reads_apart end vars count b.0 lines clauses told
+    reads_so end vars count b.0 lines clauses other
     (subst (λ after. ReadsTo end vars count after lines (Ok clauses)) same a.2) b.2
-reads_apart end vars count c (line ∷ lines) clauses told (inl a) (inr b) =
-    no_cause vars (field_texts line.text) c a.0 b.0 a.1 b.1.stands
-reads_apart end vars count c (line ∷ lines) clauses told (inr a) other =
+reads_so end vars count c (line ∷ lines) clauses other (inl a) (inr b) =
+    absurd (no_cause vars (field_texts line.text) c a.0 b.0 a.1 b.1.stands)
+reads_so end vars count c (line ∷ lines) clauses other (inr a) also =
     let e : Ok clauses ≡ Err (line.number, a.0) = a.2 in cc
 
 -- a field has one number
@@ -105,10 +105,9 @@ one_number text m n a b = sym a.value ∙ b.value
 one_header : (fields : List (List ℕ)) (v w c d : ℕ) → IsHeader fields v c → IsHeader fields w d → (v ≡ w) × (c ≡ d)
 one_header fields v w c d a b =
     let same : codes "p" ∷ codes "cnf" ∷ a.vars_field ∷ a.count_field ∷ []
-        ≡ codes "p" ∷ codes "cnf" ∷ b.vars_field ∷ b.count_field ∷ [] = sym a.fields_are ∙ b.fields_are in
+    ≡ codes "p" ∷ codes "cnf" ∷ b.vars_field ∷ b.count_field ∷ [] = sym a.fields_are ∙ b.fields_are in
     let vars : a.vars_field ≡ b.vars_field = ap (λ xs. get_or xs 2 []) same in
-    let count : a.count_field ≡ b.count_field = ap (λ xs. get_or xs 3 []) same in
-    (
+    let count : a.count_field ≡ b.count_field = ap (λ xs. get_or xs 3 []) same in (
       one_number b.vars_field v w (subst (λ t. IsNumber t v) vars a.vars_are) b.vars_are,
       one_number b.count_field c d (subst (λ t. IsNumber t c) count a.count_is) b.count_is,
     )
@@ -123,6 +122,32 @@ good_header fields vars count BadNumber is stands = stands
 good_header fields vars count OutOfRange is stands = stands
 good_header fields vars count ClauseCount is stands = stands
 
+-- what a reader of the lines behind another header of the bytes tells is the clauses of the CNF that they read as
+module _ (bytes : List ℕ) (f : Formula) (reads : IsCnfText bytes f) (header : LineText) (others : List LineText)
+    (vars count : ℕ) (lines : cnf_kept (lines_of bytes) ≡ header ∷ others)
+    (header_is : IsHeader (field_texts header.text) vars count) where
+  both_lines : reads.header ∷ reads.others ≡ header ∷ others
+  both_lines = sym reads.lines ∙ lines
+
+  both_headers : (f.vars ≡ vars) × (reads.count ≡ count)
+  both_headers =
+      let same : reads.header ≡ header = ap (λ ls. get_or ls 0 header) both_lines in
+      one_header (field_texts header.text) f.vars vars reads.count count
+      (subst (λ h. IsHeader (field_texts h.text) f.vars reads.count) same reads.header_is) header_is
+
+  pub same_body : (other : Result (List (List Lit)) (ℕ × CnfCause))
+      → ReadsTo (end_of bytes) vars count no_cut others other → other ≡ Ok f.clauses
+  same_body other told =
+      let behind : reads.others ≡ others = ap (drop 1) both_lines in
+      reads_so (end_of bytes) vars count no_cut others f.clauses other
+      (subst (λ ls. ReadsTo (end_of bytes) vars count no_cut ls (Ok f.clauses)) behind
+      (subst (λ n. ReadsTo (end_of bytes) vars n no_cut reads.others (Ok f.clauses)) both_headers.1
+      (subst (λ v. ReadsTo (end_of bytes) v reads.count no_cut reads.others (Ok f.clauses)) both_headers.0
+      reads.clauses_are))) told
+
+  pub same_vars : f.vars ≡ vars
+  same_vars = both_headers.0
+
 -- bytes that read as a CNF have no fault
 pub cnf_is_faultless : (bytes : List ℕ) (f : Formula) (line : ℕ) (cause : CnfCause) → IsCnfText bytes f
     → IsCnfFault bytes line cause → ⊥
@@ -130,13 +155,20 @@ cnf_is_faultless bytes f line cause reads (inl first) =
     let at = subst (λ lines. IsBadFirstLine (end_of bytes) lines line cause) reads.lines first in
     good_header (field_texts reads.header.text) f.vars reads.count cause reads.header_is at.1.stands
 cnf_is_faultless bytes f line cause reads (inr body) =
-    let lines : reads.header ∷ reads.others ≡ body.header ∷ body.others = sym reads.lines ∙ body.lines in
-    let same : reads.header ≡ body.header = ap (λ ls. get_or ls 0 body.header) lines in
-    let others : reads.others ≡ body.others = ap (drop 1) lines in
-    let numbers = one_header (field_texts body.header.text) f.vars body.vars reads.count body.count
-        (subst (λ h. IsHeader (field_texts h.text) f.vars reads.count) same reads.header_is) body.header_is in
-    reads_apart (end_of bytes) body.vars body.count no_cut body.others f.clauses (line, cause)
-    (subst (λ ls. ReadsTo (end_of bytes) body.vars body.count no_cut ls (Ok f.clauses)) others
-    (subst (λ n. ReadsTo (end_of bytes) body.vars n no_cut reads.others (Ok f.clauses)) numbers.1
-    (subst (λ v. ReadsTo (end_of bytes) v reads.count no_cut reads.others (Ok f.clauses)) numbers.0
-    reads.clauses_are))) body.told
+    let e : Err (line, cause) ≡ Ok f.clauses = same_body bytes f reads body.header body.others body.vars body.count
+        body.lines body.header_is (Err (line, cause)) body.told in
+    cc
+
+same_formula : (f g : Formula) → f.vars ≡ g.vars → f.clauses ≡ g.clauses → f ≡ g
+same_formula f g v c = λ i. record { vars = v i; clauses = c i }
+
+ok_same : {E : Type 0} (a b : List (List Lit)) → Ok {E = E} a ≡ Ok b → a ≡ b
+ok_same a b e = cc
+
+-- they read as one CNF
+pub one_cnf : (bytes : List ℕ) (f g : Formula) → IsCnfText bytes f → IsCnfText bytes g → f ≡ g
+one_cnf bytes f g reads also =
+    let told = same_body bytes f reads also.header also.others g.vars also.count also.lines also.header_is
+        (Ok g.clauses) also.clauses_are in
+    same_formula f g (same_vars bytes f reads also.header also.others g.vars also.count also.lines also.header_is)
+    (sym (ok_same g.clauses f.clauses told))
