@@ -32,7 +32,7 @@ pub line_start : (vars : ℕ) (fields : List (List ℕ)) (c : Cut) → LineTo va
 line_start vars fields c =
     record { front = []; cut = refl; says = record { numbers = []; spelled = tt; leads_to = refl } }
 
-all_bounded : (vars : ℕ) (front : List (List ℕ)) (numbers : List Lit) → AllZip (SpellsBounded vars) front numbers
+pub all_bounded : (vars : ℕ) (front : List (List ℕ)) (numbers : List Lit) → AllZip (SpellsBounded vars) front numbers
     → HasNoSigned front → ⊥
 all_bounded vars front numbers all bad =
     let partner = zip_partner (SpellsBounded vars) front numbers bad.field all bad.listed in

@@ -7,5 +7,6 @@ pub mod LineCauses
 pub mod LineForms
 pub mod LineParts
 pub mod NamedSteps
+pub mod OneReading
 pub mod Soundness
 pub mod Spellings

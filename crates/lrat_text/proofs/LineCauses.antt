@@ -18,7 +18,7 @@ use Rattle.lrat_text.proofs.LineParts.{all_signed, zip_partner, taken}
 -- ---- one reading of a literal
 
 -- `-` is no digit
-not_digits : (digits more : List ℕ) (n : ℕ) → digits ≡ 45 ∷ more → IsNumber digits n → ⊥
+pub not_digits : (digits more : List ℕ) (n : ℕ) → digits ≡ 45 ∷ more → IsNumber digits n → ⊥
 not_digits digits more n e h =
     let first = h.digits 0 0 (let l = ap length e in omega (arith, l)) in
     let at : get_or digits 0 0 ≡ 45 = ap (λ ds. get_or ds 0 0) e in
@@ -49,7 +49,7 @@ pub one_var : (field : List ℕ) (a b : Lit) → IsSigned field a → IsSigned f
 one_var field a b ha hb = same_var field a b a.positive b.positive refl refl ha hb
 
 -- literals that are within are not outside
-none_outside : (vars : ℕ) (fields : List (List ℕ)) (literals : List Lit) → AllZip (SpellsLit vars) fields literals
+pub none_outside : (vars : ℕ) (fields : List (List ℕ)) (literals : List Lit) → AllZip (SpellsLit vars) fields literals
     → HasOutsider vars fields → ⊥
 none_outside vars fields literals all out =
     let partner = zip_partner (SpellsLit vars) fields literals out.field all out.listed in
@@ -58,7 +58,7 @@ none_outside vars fields literals all out =
     let high = partner.1.within in
     ⊎_elim (λ e. omega (arith, same, low, e)) (λ over. omega (arith, same, high, over)) out.outside
 
-all_numbers : (fields : List (List ℕ)) (hints : List ℕ) → AllZip IsNumber fields hints → HasNoNumber fields → ⊥
+pub all_numbers : (fields : List (List ℕ)) (hints : List ℕ) → AllZip IsNumber fields hints → HasNoNumber fields → ⊥
 all_numbers fields hints all bad =
     let partner = zip_partner IsNumber fields hints bad.field all bad.listed in
     bad.none partner.0 partner.1

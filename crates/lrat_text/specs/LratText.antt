@@ -1,5 +1,5 @@
 -- The text of a refutation, its faults, and what the check tells of it.
-use Rattle.std.specs.Prelude.{◌≡◌, ◌⊎◌, ◌↔◌, Bool, ℕ, ◌+◌, ◌-◌, ◌<◌, ◌≤◌, List, [], ◌∷◌, ◌++◌, length, drop, Contains, codes, slice_index_or}
+use Rattle.std.specs.Prelude.{◌≡◌, ◌⊎◌, ◌↔◌, Bool, ℕ, ◌-◌, ◌<◌, ◌≤◌, List, [], ◌∷◌, length, drop, Contains, slice_index_or}
 use Rattle.std.specs.Prelude.{Result, Ok, Err, Option, None, Some, true}
 use Rattle.std.specs.List.{AllZip}
 use Rattle.num_text.specs.Cuts.{LineText, field_texts, lines_of}
@@ -13,7 +13,7 @@ use Rattle.lrat_text.specs.declared.lrat_line.Part.{Part}
 use Rattle.lrat_text.specs.declared.verdict.Verdict.{Verdict}
 use Rattle.lrat_text.specs.Causes.{IsFirstLratCause}
 use Rattle.lrat_text.specs.Checking.{StepLine, StepList, ComesTo, steps_of}
-use Rattle.lrat_text.specs.CnfText.{Formula}
+use Rattle.lrat_text.specs.CnfText.{Formula, IsCnfText}
 use Rattle.lrat_text.specs.Lines.{lrat_kept}
 use Rattle.lrat_text.specs.Numbers.{IsSigned, SpellsLit, HasNoNumber, HasNoSigned, is_zero, zeros, has_zero, before_zero, behind_zero, is_filled}
 
@@ -123,6 +123,12 @@ IsChecked f bytes (Ok verdict) =
 IsChecked f bytes (Err (At line cause)) =
     IsFirstFault f.vars (length f.clauses) (lrat_kept (lines_of bytes)) line cause
 IsChecked f bytes (Err Memory) = Unit {0}
+
+-- the one text is a CNF, and the check of it with the other tells this
+pub record IsToldOf (cnf lrat : List ℕ) (verdict : Verdict) : Type 0 where
+  pub f : Formula
+  pub read : IsCnfText cnf f
+  pub checked : IsChecked f lrat (Ok verdict)
 
 -- ---- the course of a check
 

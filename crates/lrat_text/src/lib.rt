@@ -20,6 +20,6 @@ mod verdict;
 
 pub use cnf::{Cnf, MAX_VARIABLE, read_cnf};
 pub use fault::{CnfCause, CnfFault, LratCause, LratFault};
-pub use laws::verified_is_unsatisfiable;
+pub use laws::{one_reading, one_verdict, verified_is_unsatisfiable};
 pub use lrat::check_lrat;
 pub use verdict::Verdict;

@@ -3,8 +3,8 @@
 use lrat_text::CnfCause::{BadHeader, BadNumber, ClauseCount, NoHeader, OutOfRange};
 use lrat_text::Verdict::{NoEmptyClause, RejectedStep, Verified};
 use lrat_text::{
-    Cnf, CnfCause, CnfFault, LratCause, LratFault, Verdict, check_lrat, read_cnf,
-    verified_is_unsatisfiable,
+    Cnf, CnfCause, CnfFault, LratCause, LratFault, Verdict, check_lrat, one_reading, one_verdict,
+    read_cnf, verified_is_unsatisfiable,
 };
 use std::alloc::Global;
 
@@ -131,6 +131,8 @@ const VERDICTS: &[(&str, Verdict)] = &[
 
 #[test]
 fn verdicts(rt: HostRuntime) {
+    one_reading();
+    one_verdict();
     verified_is_unsatisfiable();
     for &(text, verdict) in VERDICTS {
         let holds = match told(rt.alloc(), CLASH, text) {
