@@ -6,7 +6,7 @@ use Rattle.argue_words.specs.Words.{LratTexts}
 use Rattle.num_text.specs.declared.limit.TheConstants.{MAX_INPUT}
 use Rattle.lrat_text.specs.CnfText.{Formula, IsCnfText}
 use Rattle.lrat_commands.specs.Verifying.{EndsVerifying, IsCnfOf, IsUnsatisfiableOf, LratEnds, VerifiesFiles, lrat_inputs}
-use Rattle.lrat_commands.proofs.CnfReadings.{cnf_is_faultless, one_cnf}
+use Rattle.lrat_text.proofs.OneReading.{one_formula, text_no_fault}
 use Rattle.lrat_commands.proofs.VerifyingLemmas.{verified_unsatisfiable}
 use Rattle.argue_commands.specs.Inputs.{HasReadFault, IsSoundOf, Reading, StopsAt, StopsAtFirst, input}
 use Rattle.argue_commands.specs.Texts.{IsRefusal, common_text, text_bytes}
@@ -73,7 +73,7 @@ module _ (found : Reading) (texts : LratTexts) (ending : Ending) where
 
 -- bytes that read as a CNF have no fault
 cnf_sound : (file bytes : List ℕ) (f : Formula) → IsCnfText bytes f → IsSoundOf (input role.Cnf file) bytes
-cnf_sound file bytes f reads line (cause.Cnf c) first = cnf_is_faultless bytes f line c reads first
+cnf_sound file bytes f reads line (cause.Cnf c) first = text_no_fault bytes f line c reads first
 cnf_sound file bytes f reads line (cause.Framework c) first = first
 cnf_sound file bytes f reads line (cause.Script c) first = first
 cnf_sound file bytes f reads line (cause.Answer c) first = first
@@ -111,7 +111,7 @@ module _ (found : Reading) (words : List (List ℕ)) (texts : LratTexts) (f : Fo
   same_cnf : (g : Formula) → IsCnfOf (found.holds texts.cnf) g → g ≡ f
   same_cnf g is =
       let has = contents.of_cnf in
-      one_cnf has.bytes g f
+      one_formula has.bytes g f
       (subst (λ bs. IsCnfText bs g) (bytes_at (found.holds texts.cnf) has.bytes is.bytes has.known is.has) is.reads)
       has.reads
 
@@ -173,7 +173,7 @@ module _ (found : Reading) (words : List (List ℕ)) (texts : LratTexts) (bytes 
       let reads : IsCnfText bytes checks.formula =
       subst (λ bs. IsCnfText bs checks.formula) (bytes_at (found.holds texts.cnf) bytes of.bytes asks.known of.has)
       of.reads in
-      cnf_is_faultless bytes checks.formula faulty.0 faulty.1 reads faulty.2
+      text_no_fault bytes checks.formula faulty.0 faulty.1 reads faulty.2
 
   no_long_cnf : (end : Status) → VerifiesFiles found.holds texts end → MAX_INPUT < length bytes → ⊥
   no_long_cnf end checks long =

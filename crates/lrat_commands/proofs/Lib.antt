@@ -1,2 +1,1 @@
-pub mod CnfReadings
 pub mod VerifyingLemmas

@@ -11,7 +11,7 @@ use Rattle.lrat_text.specs.declared.fault.CnfFault.{CnfFault}
 use Rattle.lrat_text.specs.declared.fault.CnfFault.TheVariants as cnf_fault
 use Rattle.lrat_text.specs.declared.fault.LratFault.{LratFault}
 use Rattle.lrat_text.specs.declared.fault.LratFault.TheVariants as lrat_fault
-use Rattle.lrat_text.proofs.Soundness.{verified_has_no_model}
+use Rattle.lrat_text.proofs.OneReading.{told_unsatisfiable}
 use Rattle.argue_commands.specs.Inputs.{EndsReading, Input, IsRead, IsUnrefused, Reading, StopsReading, input}
 use Rattle.argue_commands.specs.Texts.{common_text}
 use Rattle.argue_commands.specs.declared.ended.Refusal.TheVariants.{Line, Query, UnknownName}
@@ -112,7 +112,8 @@ reading_ends found texts end (inr memory) = inr (inl memory)
 pub verified_unsatisfiable : (holds : List ℕ → KnownFile) (texts : LratTexts) → VerifiesFiles holds texts Done
     → IsUnsatisfiableOf (holds texts.cnf)
 verified_unsatisfiable holds texts is = record {
-  formula = is.formula;
-  of_cnf = is.of_cnf;
-  no_model = verified_has_no_model is.formula.clauses is.ends.0 is.ends.2;
+  bytes = is.of_cnf.bytes;
+  has = is.of_cnf.has;
+  is = told_unsatisfiable is.of_cnf.bytes is.bytes
+      (record { f = is.formula; read = is.of_cnf.reads; checked = is.ends });
 }

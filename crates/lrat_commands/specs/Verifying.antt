@@ -5,7 +5,7 @@ use Rattle.argue_outside.specs.declared.Role.TheVariants as role
 use Rattle.argue_words.specs.Words.{LratTexts}
 use Rattle.lrat_text.specs.CnfText.{Formula, IsCnfText}
 use Rattle.lrat_text.specs.LratText.{IsChecked}
-use Rattle.lrat_text.specs.Unsatisfiable.{HasNoModel}
+use Rattle.lrat_text.specs.Unsatisfiable.{IsUnsatisfiable}
 use Rattle.lrat_text.specs.declared.fault.CnfFault.{CnfFault}
 use Rattle.lrat_text.specs.declared.fault.CnfFault.TheVariants as cnf_fault
 use Rattle.lrat_text.specs.declared.fault.LratFault.{LratFault}
@@ -47,11 +47,11 @@ pub record VerifiesFiles (holds : List ℕ → KnownFile) (texts : LratTexts) (e
   pub of_lrat : HasBytes (holds texts.lrat) bytes
   pub ends : LratEnds formula bytes end
 
--- no valuation makes every clause of the CNF in the file true
+-- the file's bytes are the text of one CNF, and no valuation makes every clause of it true
 pub record IsUnsatisfiableOf (known : KnownFile) : Type 0 where
-  pub formula : Formula
-  pub of_cnf : IsCnfOf known formula
-  pub no_model : HasNoModel formula.clauses
+  pub bytes : List ℕ
+  pub has : HasBytes known bytes
+  pub is : IsUnsatisfiable bytes
 
 -- ---- the parts of a check
 
