@@ -3,6 +3,7 @@ mod LargeLemmas
 mod LratLemmas
 mod NamesLemmas
 mod ScriptLemmas
+mod WhyLemmas
 pub mod KeptLemmas
 pub mod RowsLemmas
 pub mod RunsLemmas
