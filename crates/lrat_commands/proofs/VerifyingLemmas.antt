@@ -78,27 +78,31 @@ module _ (found : Reading) (texts : LratTexts) (bytes : LratBytes) (has : HasLra
   pub cnf_err : (end : Status) → StopsCnf bytes.cnf end → EndsVerifying found texts end
   cnf_err end stops = cnf_ends end stops
 
-  verifies : (f : Formula) (end : Status) → IsCnfText bytes.cnf f → LratEnds f bytes.lrat end
-      → VerifiesFiles found.holds texts end
-  verifies f end reads ends = record {
-    formula = f;
-    bytes = bytes.lrat;
-    of_cnf = record { bytes = bytes.cnf; has = has.cnf; reads = reads };
-    of_lrat = has.lrat;
-    ends = ends;
-  }
+verifies : (holds : List ℕ → KnownFile) (texts : LratTexts) (bytes : LratBytes) (f : Formula) (end : Status)
+    → HasLratBytes holds texts bytes → IsCnfText bytes.cnf f → LratEnds f bytes.lrat end
+    → VerifiesFiles holds texts end
+verifies holds texts bytes f end has reads ends = record {
+  formula = f;
+  bytes = bytes.lrat;
+  of_cnf = record { bytes = bytes.cnf; has = has.cnf; reads = reads };
+  of_lrat = has.lrat;
+  ends = ends;
+}
 
-  -- what is said of the texts is said of the files
-  pub verified_ok : {T : Type 0} (f : Formula) (r : Result T Status) → IsCnfText bytes.cnf f
-      → OnOk r (LratEnds f bytes.lrat Done) → OnOk r (VerifiesFiles found.holds texts Done)
-  verified_ok f (Ok x) reads ends = verifies f Done reads ends
-  verified_ok f (Err end) reads ends = tt
+-- what is said of the texts is said of the files
+pub verified_ok : {T : Type 0} (holds : List ℕ → KnownFile) (texts : LratTexts) (bytes : LratBytes) (f : Formula)
+    (r : Result T Status) → HasLratBytes holds texts bytes → IsCnfText bytes.cnf f
+    → OnOk r (LratEnds f bytes.lrat Done) → OnOk r (VerifiesFiles holds texts Done)
+verified_ok holds texts bytes f (Ok x) has reads ends = verifies holds texts bytes f Done has reads ends
+verified_ok holds texts bytes f (Err end) has reads ends = tt
 
-  pub verified_err : {T : Type 0} (f : Formula) (r : Result T Status) → IsCnfText bytes.cnf f
-      → IfErr r (λ end. (end ≡ WantOfMemory) ⊎ LratEnds f bytes.lrat end) → IfErr r (EndsVerifying found texts)
-  verified_err f (Ok x) reads ends = tt
-  verified_err f (Err end) reads (inl memory) = inr (inl memory)
-  verified_err f (Err end) reads (inr ends) = inr (inr (verifies f end reads ends))
+pub verified_err : {T : Type 0} (found : Reading) (texts : LratTexts) (bytes : LratBytes) (f : Formula)
+    (r : Result T Status) → HasLratBytes found.holds texts bytes → IsCnfText bytes.cnf f
+    → IfErr r (λ end. (end ≡ WantOfMemory) ⊎ LratEnds f bytes.lrat end) → IfErr r (EndsVerifying found texts)
+verified_err found texts bytes f (Ok x) has reads ends = tt
+verified_err found texts bytes f (Err end) has reads (inl memory) = inr (inl memory)
+verified_err found texts bytes f (Err end) has reads (inr ends) =
+    inr (inr (verifies found.holds texts bytes f end has reads ends))
 
 -- what ends the reading of the files ends the check
 pub reading_ends : (found : Reading) (texts : LratTexts) (end : Status) → StopsReading found (lrat_inputs texts) end
