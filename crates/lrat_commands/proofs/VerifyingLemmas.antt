@@ -1,6 +1,6 @@
 -- How a check of a CNF with its refutation ends on the bytes of its files.
-use Rattle.std.proofs.Common.{◌≡◌, ◌≢◌, ◌<◌, ℕ, zero, suc, arith, List, [], ◌∷◌, refl, sym, subst, inl, inr, Result, Ok, Err}
-use Rattle.std.specs.Prelude.{Contains, IfErr, IfOk, IsSome, OnOk}
+use Rattle.std.proofs.Common.{◌≡◌, ◌⊎◌, ℕ, zero, suc, arith, List, [], ◌∷◌, refl, subst, inl, inr, Result, Ok, Err}
+use Rattle.std.specs.Prelude.{Contains, IfErr, IsSome, OnOk}
 use Rattle.argue_outside.specs.Outside.{HoldsStill, KnownFile}
 use Rattle.argue_outside.specs.declared.Role.{Role}
 use Rattle.argue_outside.specs.declared.Role.TheVariants as role
