@@ -1,7 +1,10 @@
 -- The inner state of a solver, which no caller sees: the clauses of the propagator beside the steps of the log.
-use Rattle.std.specs.Prelude.{◌≡◌, ℕ, ◌+◌, ◌-◌, ◌<◌, ◌≤◌, List, length, Contains}
+use Rattle.std.specs.Prelude.{◌≡◌, ◌≢◌, ◌⊎◌, ℕ, ◌+◌, ◌<◌, ◌≤◌, List, length, Contains}
+use Rattle.std.specs.List.Sorted.{IsStrictlyIncreasing}
 use Rattle.plain_lits.specs.declared.lit.Lit.{Lit}
-use Rattle.hinted_log.specs.Logs.{Step, LogState, IsStepOf}
+use Rattle.hinted_log.specs.Logs.{Step, LogState, IsStepOf, step_at}
+use Rattle.hinted_log.specs.declared.step_kind.StepKind.TheVariants.{Derived}
+use Rattle.unit_propagate.specs.Search.{Search}
 use Rattle.sat_core.specs.Solving.{clause_of, Holds, with_derived}
 use Rattle.sleeping_clauses.specs.Steps.{IsMirror}
 use Rattle.sleeping_clauses.specs.Sleeping.{AreSleepers, IsAsleep}

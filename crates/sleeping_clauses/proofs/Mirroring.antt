@@ -91,7 +91,7 @@ none_named clauses id e n =
     let long = ap length e in
     omega (arith, from, within, long)
 
-mirror_none : (clauses : List (List Lit)) (awake : List ℕ) (steps : List Step) → clauses ≡ [] → awake ≡ []
+pub mirror_none : (clauses : List (List Lit)) (awake : List ℕ) (steps : List Step) → clauses ≡ [] → awake ≡ []
     → IsMirror clauses awake steps
 mirror_none clauses awake steps e e1 = record {
   long = ap length e1 ∙ sym (ap length e);
