@@ -1,6 +1,6 @@
 -- What a descent finds.
-use Rattle.std.proofs.Common.{◌≡◌, ◌≢◌, ℕ, ◌<◌, ◌≤◌, ◌+◌, List, [], ◌∷◌, length, Bool, true, false, not}
-use Rattle.std.proofs.Common.{arith, ap, sym, subst, ◌∙◌, refl, inl, inr, ⊎_elim}
+use Rattle.std.proofs.Common.{◌≡◌, ◌≢◌, ℕ, ◌<◌, ◌≤◌, ◌+◌, List, [], ◌∷◌, length, Bool, true, false, not, arith, ap, sym}
+use Rattle.std.proofs.Common.{subst, ◌∙◌, refl, inl, inr, ⊎_elim}
 use Rattle.std.specs.Prelude.{Contains, ◌⊎◌}
 use Rattle.std.proofs.lemmas.Bool.{cases_lt}
 use Rattle.std.proofs.lemmas.List.{length_push}
@@ -19,12 +19,11 @@ use Rattle.hinted_log.proofs.Following.{all_follow}
 use Rattle.lists.proofs.TruthValues.{is_denied, not_itself}
 use Rattle.unit_propagate.specs.Search.{Search, IsSearch, IsQuiet, HasGrown, Decides, GoesBack}
 use Rattle.clause_watches.proofs.Fronts.{consistent}
-use Rattle.sat_core.specs.Runs.{HasValue, HaveValues, IsUnsetIn}
-use Rattle.sat_core.specs.Runs.{IsUnsetVar, GoesOn, IsRun, HasRoom}
+use Rattle.sat_core.specs.Runs.{HasValue, HaveValues, IsUnsetIn, IsUnsetVar, GoesOn, IsRun}
+use Rattle.sleeping_clauses.specs.Steps.{HasRoom, IsMirror}
 use Rattle.sat_core.specs.Solving.{SolverState, clause_of, IsModel}
-use Rattle.sat_core.specs.Mirrors.{IsMirror}
-use Rattle.sat_core.specs.Sleeping.{IsHeld}
-use Rattle.sat_core.specs.declared.sleepers.Sleeper.{Sleeper}
+use Rattle.sat_core.specs.Mirrors.{IsHeld}
+use Rattle.sleeping_clauses.specs.declared.sleepers.Sleeper.{Sleeper}
 use Rattle.sat_core.proofs.Running.{grown, decided, back}
 use Rattle.sat_core.proofs.Mirroring.{id_of}
 use Rattle.sat_core.proofs.Holding.{active_step}

@@ -1,6 +1,6 @@
 -- The first level, which has the front: it stays as it is while levels above it come and go.
-use Rattle.std.proofs.Common.{◌≡◌, ◌≢◌, ℕ, ◌<◌, ◌≤◌, ◌+◌, List, [], ◌∷◌, ◌++◌, length, get_or, take}
-use Rattle.std.proofs.Common.{arith, ap, sym, subst, ◌∙◌, refl, ⊎_elim, length-append, length-take}
+use Rattle.std.proofs.Common.{◌≡◌, ◌≢◌, ℕ, ◌<◌, ◌≤◌, ◌+◌, List, [], ◌∷◌, ◌++◌, length, get_or, take, arith, ap, sym}
+use Rattle.std.proofs.Common.{subst, ◌∙◌, refl, ⊎_elim, length-append, length-take}
 use Rattle.std.specs.Prelude.{Contains, Result, Ok, Err, OnErr, OnOk}
 use Rattle.std.proofs.Math.Seq.{get_or-append_seam}
 use Rattle.std.proofs.lemmas.List.{append-nil, get_or_default, get_or_past, get_or_append_left, get_or-take}
@@ -12,10 +12,11 @@ use Rattle.plain_lits.specs.declared.value.Value.{Value}
 use Rattle.plain_lits.specs.declared.value.Value.TheVariants.{True, False, Unset}
 use Rattle.plain_lits.specs.Literals.{negation}
 use Rattle.plain_lits.specs.Values.{IsValueIn}
-use Rattle.unit_propagate.specs.Search.{Search, IsSearch, HasGrown, Decides, GoesBack, GainsBlock}
-use Rattle.unit_propagate.specs.Search.{Learns, StaysAssigned}
+use Rattle.unit_propagate.specs.Search.{Search, IsSearch, HasGrown, Decides, GoesBack, GainsBlock, Learns}
+use Rattle.unit_propagate.specs.Search.{StaysAssigned}
 use Rattle.conflict_learn.proofs.Literally.{contains_stands}
-use Rattle.sat_core.specs.Runs.{HasRoom, IsFronted, IsResting, front_end}
+use Rattle.sleeping_clauses.specs.Steps.{HasRoom}
+use Rattle.sat_core.specs.Runs.{IsFronted, IsResting, front_end}
 
 -- a literal whose value isn't False isn't false
 pub not_false : (lits : List Lit) (l : Lit) (v : Value) → IsValueIn lits l v → v ≢ False → Contains lits (negation l)

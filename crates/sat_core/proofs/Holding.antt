@@ -1,6 +1,6 @@
 -- The steps in use, of which each is the propagator's or asleep.
-use Rattle.std.proofs.Common.{◌≡◌, ℕ, ◌<◌, ◌≤◌, ◌+◌, ◌-◌, List, [], ◌∷◌, ◌++◌, length, get_or, remove}
-use Rattle.std.proofs.Common.{arith, ap, sym, subst, ◌∙◌, refl, inl, inr, ⊎_elim, length-append}
+use Rattle.std.proofs.Common.{◌≡◌, ℕ, ◌<◌, ◌≤◌, ◌+◌, ◌-◌, List, [], ◌∷◌, ◌++◌, length, get_or, remove, arith, ap, sym}
+use Rattle.std.proofs.Common.{subst, ◌∙◌, refl, inl, inr, ⊎_elim, length-append}
 use Rattle.std.specs.Prelude.{◌⊎◌, Contains}
 use Rattle.std.proofs.Math.Seq.{get_or-append_seam}
 use Rattle.std.proofs.lemmas.Bool.{cases_lt}
@@ -9,19 +9,18 @@ use Rattle.std.proofs.lemmas.List.Edits.{length-remove, get_or-remove_below, get
 use Rattle.std.proofs.lemmas.List.Elements.{Contains-push_cases, Contains-append_left, Contains-push, Contains-get_or}
 use Rattle.lists.proofs.Membership.{Contains-nil}
 use Rattle.plain_lits.specs.declared.lit.Lit.{Lit}
-use Rattle.plain_lits.specs.HintCheck.{IsNamed}
 use Rattle.hinted_log.specs.Logs.{Step, LogState, IsLog, IsStepOf, step_at, derived_step, no_step}
 use Rattle.hinted_log.specs.declared.step_kind.StepKind.TheVariants.{Derived}
-use Rattle.unit_propagate.specs.Search.{Search, GainsClause}
-use Rattle.sat_core.specs.declared.sleepers.Sleeper.{Sleeper}
-use Rattle.sat_core.specs.declared.loading.Loaded.{Loaded}
+use Rattle.unit_propagate.specs.Search.{Search}
+use Rattle.sleeping_clauses.specs.declared.sleepers.Sleeper.{Sleeper}
+use Rattle.sleeping_clauses.specs.declared.loading.Loaded.{Loaded}
 use Rattle.sat_core.specs.Solving.{SolverState, IsSolver, clause_of}
-use Rattle.sat_core.specs.Mirrors.{IsMirror, IsDerived}
-use Rattle.sat_core.specs.Runs.{GoesOn, HasRoom}
-use Rattle.sat_core.specs.Sleeping.{IsSleeper, AreSleepers, SleepsAs, IsAsleep, AreShared, IsHeld, AreLoaded}
-use Rattle.sat_core.proofs.Mirroring.{id_of, mirror_grown, mirror_pushed, rises_pushed, clause_kept, step_kept}
-use Rattle.sat_core.proofs.Mirroring.{clause_new, step_new}
-use Rattle.sat_core.proofs.Running.{room_more}
+use Rattle.sleeping_clauses.specs.Steps.{IsMirror}
+use Rattle.sat_core.specs.Mirrors.{IsDerived, AreShared, IsHeld}
+use Rattle.sat_core.specs.Runs.{GoesOn}
+use Rattle.sleeping_clauses.specs.Sleeping.{IsSleeper, AreLoaded}
+use Rattle.sat_core.proofs.Mirroring.{id_of, mirror_grown, rises_pushed, clause_kept, step_kept, clause_new, step_new}
+use Rattle.sleeping_clauses.proofs.Mirroring.{mirror_pushed, mirror_none}
 use Rattle.sat_core.proofs.Searching.{Recorded}
 
 -- a step in use is one of the log
@@ -311,40 +310,6 @@ held_woken old new awake new_awake asleep new_asleep active steps clause index x
       known = λ n l step c. let lt = h.known n l step c in omega (arith, lt, more);
     }))
 
--- nothing is there yet
-none_named : {L : Type 0} (clauses : List (List L)) (id : ℕ) → clauses ≡ [] → IsNamed clauses id → ⊥
-none_named clauses id e n =
-    let from = n.from_one in
-    let within = n.within in
-    let long = ap length e in
-    omega (arith, from, within, long)
-
-mirror_none : (clauses : List (List Lit)) (awake : List ℕ) (steps : List Step) → clauses ≡ [] → awake ≡ []
-    → IsMirror clauses awake steps
-mirror_none clauses awake steps e e1 = record {
-  long = ap length e1 ∙ sym (ap length e);
-  named = λ id n. absurd (none_named clauses id e n);
-  same = λ id n. absurd (none_named clauses id e n);
-}
-
-pub room_none : (s : Search) → s.clauses ≡ [] → HasRoom s
-room_none s e = record { known = λ id l n c. absurd (none_named s.clauses id e n) }
-
-pub loaded_none : (loaded : Loaded) (asleep : List Sleeper) (steps : List Step) → loaded.search.clauses ≡ []
-    → loaded.search.lits ≡ [] → loaded.search.starts ≡ [] → loaded.awake.items ≡ [] → loaded.asleep.items ≡ asleep
-    → AreSleepers steps asleep → AreLoaded loaded asleep [] steps
-loaded_none loaded asleep steps clauses lits starts awake same sleepers = record {
-  mirror = mirror_none loaded.search.clauses loaded.awake.items steps clauses awake;
-  sleepers = λ x c. sleepers x (subst (λ xs. Contains xs x) same c);
-  awake_of = λ n c. subst (λ xs. Contains xs n) awake c;
-  asleep_of = λ x c. inl (subst (λ xs. Contains xs x) same c);
-  kept = λ x c. subst (λ xs. Contains xs x) (sym same) c;
-  covered = λ n c. absurd (Contains-nil n c);
-  none = lits;
-  starts = starts;
-  room = room_none loaded.search clauses;
-}
-
 pub held_none : (s : Search) (awake : List ℕ) (asleep : List Sleeper) (active : List ℕ) (steps : List Step)
     → s.clauses ≡ [] → awake ≡ [] → asleep ≡ [] → active ≡ [] → steps ≡ [] → IsHeld s awake asleep active steps
 held_none s awake asleep active steps clauses e1 e2 e3 e4 =
@@ -365,76 +330,6 @@ held_none s awake asleep active steps clauses e1 e2 e3 e4 =
       given = λ n step ne. absurd (none n step);
       known = λ n l step c. absurd (none n step);
     }
-
--- a propagator is loaded
-pub loaded_awake : (old new : Loaded) (asleep : List Sleeper) (done : List ℕ) (steps : List Step) (number : ℕ)
-    (clause : List Lit) (id : ℕ) → IsStepOf steps number → clause ≡ clause_of steps number
-    → GainsClause old.search new.search clause id → new.awake.items ≡ old.awake.items ++ number ∷ []
-    → new.asleep.items ≡ old.asleep.items → AreLoaded old asleep done steps
-    → AreLoaded new asleep (done ++ number ∷ []) steps
-loaded_awake old new asleep done steps number clause id step is g e1 e2 h = record {
-  mirror = subst (λ xs. IsMirror new.search.clauses xs steps) (sym e1)
-      (subst (λ cs. IsMirror cs (old.awake.items ++ number ∷ []) steps) (sym g.clauses)
-      (mirror_pushed old.search.clauses old.awake.items steps clause number h.mirror step (sym is)));
-  sleepers = λ x c. h.sleepers x (subst (λ xs. Contains xs x) e2 c);
-  awake_of = λ n c. ⊎_elim
-      (λ there. Contains-append_left done (number ∷ []) n (h.awake_of n there))
-      (λ (last : number ≡ n). subst (Contains (done ++ number ∷ [])) last (Contains-push done number))
-      (Contains-push_cases old.awake.items number n (subst (λ xs. Contains xs n) e1 c));
-  asleep_of = λ x c. ⊎_elim (λ a. inl a) (λ d. inr (Contains-append_left done (number ∷ []) x.step d))
-      (h.asleep_of x (subst (λ xs. Contains xs x) e2 c));
-  kept = λ x c. subst (λ xs. Contains xs x) (sym e2) (h.kept x c);
-  covered = λ n c. ⊎_elim
-      (λ there. ⊎_elim
-      (λ a. inl (subst (λ xs. Contains xs n) (sym e1) (Contains-append_left old.awake.items (number ∷ []) n a)))
-      (λ w. inr (subst (λ xs. IsAsleep xs n) (sym e2) w))
-      (h.covered n there))
-      (λ (last : number ≡ n). inl (subst (λ xs. Contains xs n) (sym e1)
-      (subst (Contains (old.awake.items ++ number ∷ [])) last (Contains-push old.awake.items number))))
-      (Contains-push_cases done number n c);
-  none = g.assigned.lits ∙ h.none;
-  starts = g.assigned.starts ∙ h.starts;
-  room = room_more old.search new.search clause g.clauses g.assigned.vars g.known h.room;
-}
-
-pub loaded_asleep : (old new : Loaded) (asleep : List Sleeper) (done : List ℕ) (steps : List Step) (number : ℕ)
-    (x : Sleeper) → SleepsAs steps number x → new.search ≡ old.search → new.awake.items ≡ old.awake.items
-    → new.asleep.items ≡ old.asleep.items ++ x ∷ [] → AreLoaded old asleep done steps
-    → AreLoaded new asleep (done ++ number ∷ []) steps
-loaded_asleep old new asleep done steps number x s e e1 e2 h = record {
-  mirror = subst (λ (q : Search). IsMirror q.clauses new.awake.items steps) (sym e)
-      (subst (λ xs. IsMirror old.search.clauses xs steps) (sym e1) h.mirror);
-  sleepers = λ y c. ⊎_elim (λ there. h.sleepers y there)
-      (λ (last : x ≡ y). subst (IsSleeper steps) last s.is)
-      (Contains-push_cases old.asleep.items x y (subst (λ xs. Contains xs y) e2 c));
-  awake_of = λ n c. Contains-append_left done (number ∷ []) n (h.awake_of n (subst (λ xs. Contains xs n) e1 c));
-  asleep_of = λ y c. ⊎_elim
-      (λ there. ⊎_elim (λ a. inl a) (λ d. inr (Contains-append_left done (number ∷ []) y.step d))
-      (h.asleep_of y there))
-      (λ (last : x ≡ y). inr (subst (λ (z : Sleeper). Contains (done ++ number ∷ []) z.step) last
-      (subst (Contains (done ++ number ∷ [])) (sym s.same) (Contains-push done number))))
-      (Contains-push_cases old.asleep.items x y (subst (λ xs. Contains xs y) e2 c));
-  kept = λ y c. subst (λ xs. Contains xs y) (sym e2) (Contains-append_left old.asleep.items (x ∷ []) y (h.kept y c));
-  covered = λ n c. ⊎_elim
-      (λ there. ⊎_elim
-      (λ a. inl (subst (λ xs. Contains xs n) (sym e1) a))
-      (λ w. inr (record {
-        sleeper = w.sleeper;
-        there = subst (λ xs. Contains xs w.sleeper) (sym e2)
-            (Contains-append_left old.asleep.items (x ∷ []) w.sleeper w.there);
-        same = w.same;
-      }))
-      (h.covered n there))
-      (λ (last : number ≡ n). inr (record {
-        sleeper = x;
-        there = subst (λ xs. Contains xs x) (sym e2) (Contains-push old.asleep.items x);
-        same = s.same ∙ last;
-      }))
-      (Contains-push_cases done number n c);
-  none = ap (λ (q : Search). q.lits) e ∙ h.none;
-  starts = ap (λ (q : Search). q.starts) e ∙ h.starts;
-  room = subst HasRoom (sym e) h.room;
-}
 
 pub held_loaded : (old : Search) (loaded : Loaded) (awake : List ℕ) (asleep : List Sleeper) (active : List ℕ)
     (steps : List Step) → old.vars ≤ loaded.search.vars → AreLoaded loaded asleep awake steps

@@ -1,6 +1,6 @@
 -- The clauses of the propagator beside the steps of the log.
-use Rattle.std.proofs.Common.{◌≡◌, ℕ, ◌<◌, ◌+◌, ◌-◌, List, [], ◌∷◌, ◌++◌, length, get_or, take, map}
-use Rattle.std.proofs.Common.{arith, ap, sym, subst, ◌∙◌, refl, inl, inr, ⊎_elim, length-append, Ok, Err}
+use Rattle.std.proofs.Common.{◌≡◌, ℕ, ◌<◌, ◌+◌, ◌-◌, List, [], ◌∷◌, ◌++◌, length, get_or, take, map, arith, ap, sym}
+use Rattle.std.proofs.Common.{subst, ◌∙◌, refl, inl, inr, ⊎_elim, length-append, Ok, Err}
 use Rattle.std.specs.Prelude.{Contains}
 use Rattle.std.specs.List.Sorted.{IsStrictlyIncreasing}
 use Rattle.std.proofs.Math.Seq.{get_or-append_seam}
@@ -13,16 +13,16 @@ use Rattle.plain_lits.specs.CheckLaws.{Renames, IsImage}
 use Rattle.plain_lits.proofs.HintCheckLemmas.{taken_sound}
 use Rattle.plain_lits.proofs.OneOutcome.{cases_lit, one_outcome}
 use Rattle.plain_lits.proofs.Renaming.{checks_moved}
-use Rattle.hinted_log.specs.Logs.{Step, LogState, IsStepOf, AddsStep, AddsDerived, clauses_of, no_step}
-use Rattle.hinted_log.specs.Logs.{derived_step}
+use Rattle.hinted_log.specs.Logs.{Step, LogState, IsStepOf, AddsStep, AddsDerived, clauses_of, no_step, derived_step}
 use Rattle.hinted_log.proofs.Following.{clause_of_step, length-clauses_of}
 use Rattle.conflict_learn.specs.Learning.{AreUsed, ComesFromHints, IsLearned, IsNew}
 use Rattle.sat_core.specs.Solving.{SolverState, clause_of, Holds, IsShown, IsUnitOf, with_derived}
-use Rattle.sat_core.specs.Sleeping.{AreShared, HasNoSubsumingSleeper}
-use Rattle.sat_core.specs.declared.sleepers.Sleeper.{Sleeper}
-use Rattle.sat_core.specs.Mirrors.{step_of, IsMirror, IsDerived}
-use Rattle.sat_core.proofs.Running.{clause_cases}
+use Rattle.sat_core.specs.Mirrors.{AreShared, IsDerived}
+use Rattle.sleeping_clauses.specs.Sleeping.{HasNoSubsumingSleeper}
+use Rattle.sleeping_clauses.specs.declared.sleepers.Sleeper.{Sleeper}
+use Rattle.sleeping_clauses.specs.Steps.{step_of, IsMirror}
 use Rattle.lists.proofs.Images.{image_there, image_from}
+use Rattle.sleeping_clauses.proofs.Mirroring.{mirror_pushed}
 
 -- the id of a step in use
 pub id_of : (clauses : List (List Lit)) (active : List ℕ) (steps : List Step) (number : ℕ)
@@ -234,30 +234,6 @@ rises_pushed xs x rise below k lt =
     let low = below k (omega arith) in
     omega (arith, a, b, low))
     (cases_lt (k + 1) (length xs))
-
--- a step of the log comes with its clause
-pub mirror_pushed : (clauses : List (List Lit)) (active : List ℕ) (steps : List Step) (clause : List Lit) (number : ℕ)
-    → IsMirror clauses active steps → IsStepOf steps number → clause_of steps number ≡ clause
-    → IsMirror (clauses ++ clause ∷ []) (active ++ number ∷ []) steps
-mirror_pushed clauses active steps clause number m step is =
-    let long = m.long in
-    let old_at : (id : ℕ) → IsNamed clauses id → step_of (active ++ number ∷ []) id ≡ step_of active id = λ id n.
-    let from = n.from_one in let within = n.within in
-    get_or_append_left active (number ∷ []) 0 (id - 1) (omega arith) in
-    let new_at : (id : ℕ) → id ≡ length clauses + 1 → step_of (active ++ number ∷ []) id ≡ number = λ id e.
-    let i : id - 1 ≡ length active = omega arith in
-    ap (λ k. get_or (active ++ number ∷ []) k 0) i ∙ get_or-append_seam active number [] 0 in
-    record {
-      long = omega (arith, length-append active (number ∷ []), length-append clauses (clause ∷ []), long);
-      named = λ id n. ⊎_elim
-          (λ w. subst (IsStepOf steps) (sym (old_at id w.0)) (m.named id w.0))
-          (λ w. subst (IsStepOf steps) (sym (new_at id w.0)) step)
-          (clause_cases clauses clause id n);
-      same = λ id n. ⊎_elim
-          (λ w. ap (clause_of steps) (old_at id w.0) ∙ (m.same id w.0 ∙ sym w.1))
-          (λ w. ap (clause_of steps) (new_at id w.0) ∙ (is ∙ sym w.1))
-          (clause_cases clauses clause id n);
-    }
 
 -- a step comes with its clause
 pub mirror_more : (clauses : List (List Lit)) (active : List ℕ) (steps : List Step) (step : Step)

@@ -1,6 +1,6 @@
 -- What comes of a conflict, and what a turn makes of it.
-use Rattle.std.proofs.Common.{◌≡◌, ℕ, ◌+◌, List, length, Option, Some, None, Result, Ok, Err}
-use Rattle.std.proofs.Common.{arith, ap, sym, subst, ◌∙◌}
+use Rattle.std.proofs.Common.{◌≡◌, ℕ, ◌+◌, List, length, Option, Some, None, Result, Ok, Err, arith, ap, sym, subst}
+use Rattle.std.proofs.Common.{◌∙◌}
 use Rattle.std.specs.Prelude.{OnOk, OnErr}
 use Rattle.plain_lits.specs.declared.lit.Lit.{Lit}
 use Rattle.plain_lits.specs.declared.halt.Halt.TheVariants.{Spent, LogFull, Memory}
@@ -10,7 +10,7 @@ use Rattle.sat_core.specs.declared.cdcl.End.{End}
 use Rattle.sat_core.specs.declared.cdcl.End.TheVariants.{Satisfied, Refuted, Stopped}
 use Rattle.sat_core.specs.declared.cdcl.Resolved.{Resolved}
 use Rattle.sat_core.specs.declared.cdcl.Resolved.TheVariants.{Learned, Woken, Ended}
-use Rattle.sat_core.specs.declared.sleepers.Sleeper.{Sleeper}
+use Rattle.sleeping_clauses.specs.declared.sleepers.Sleeper.{Sleeper}
 use Rattle.sat_core.specs.Solving.{SolverState, Derives, EndsCore, StopsAs}
 use Rattle.sat_core.specs.Turns.{state_of, IsKept, IsAtRest, Runs, Goes, LearnsOne, Resolves, NotEnded, EndsAt}
 use Rattle.sat_core.specs.Turns.{HasRested, IsTurn}

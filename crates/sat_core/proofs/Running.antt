@@ -1,6 +1,6 @@
 -- A search goes on: levels begin, grow and are taken back, and clauses come.
-use Rattle.std.proofs.Common.{◌≡◌, ℕ, ◌<◌, ◌≤◌, ◌+◌, ◌-◌, List, [], ◌∷◌, ◌++◌, length, get_or, take}
-use Rattle.std.proofs.Common.{arith, ap, sym, subst, ◌∙◌, refl, inl, inr, ⊎_elim, length-append, length-take}
+use Rattle.std.proofs.Common.{◌≡◌, ℕ, ◌<◌, ◌≤◌, ◌+◌, ◌-◌, List, [], ◌∷◌, ◌++◌, length, get_or, take, arith, ap, sym}
+use Rattle.std.proofs.Common.{subst, ◌∙◌, refl, inl, inr, ⊎_elim, length-append, length-take}
 use Rattle.std.specs.Prelude.{Contains, ◌⊎◌}
 use Rattle.std.proofs.Math.Seq.{get_or-append_seam}
 use Rattle.std.proofs.lemmas.List.{get_or_default, get_or-set_other, get_or_append_left, get_or-append_right}
@@ -13,12 +13,13 @@ use Rattle.plain_lits.proofs.OneOutcome.{cases_lit}
 use Rattle.unit_propagate.specs.Search.{Search, IsSearch, IsQuiet, HasGrown, Decides, GoesBack, GainsBlock, GainsClause}
 use Rattle.unit_propagate.specs.Search.{Learns, StaysSearch}
 use Rattle.clause_watches.proofs.Fronts.{consistent}
-use Rattle.conflict_learn.specs.Learning.{StandsAt, IsDecided, IsSettled, IsOpen, IsAssumed}
-use Rattle.conflict_learn.specs.Learning.{lits_at}
-use Rattle.sat_core.specs.Runs.{IsEarly, BeginsAt, HasRoom, IsRun, IsFronted, IsResting, IsReadyFor}
+use Rattle.conflict_learn.specs.Learning.{StandsAt, IsDecided, IsSettled, IsOpen, IsAssumed, lits_at}
+use Rattle.sat_core.specs.Runs.{IsEarly, BeginsAt, IsRun, IsFronted, IsResting, IsReadyFor}
+use Rattle.sleeping_clauses.specs.Steps.{HasRoom}
 use Rattle.sat_core.proofs.Fronting.{fronted_grown, fronted_learned, fronted_stays, fronted_block, fronted_decided}
 use Rattle.sat_core.proofs.Fronting.{fronted_back, fronted_none, fronted_new, end_past, rests}
 use Rattle.conflict_learn.proofs.Literally.{stands_contains, contains_stands}
+use Rattle.sleeping_clauses.proofs.Mirroring.{clause_cases, room_more}
 
 stands_more : (lits rest : List Lit) (index : ℕ) (l : Lit) → StandsAt lits index l → StandsAt (lits ++ rest) index l
 stands_more lits rest index l s =
@@ -44,49 +45,6 @@ room_same old new same vars room = record {
       let lt = room.known id l (subst (λ cs. IsNamed cs id) same named)
       (subst (λ cs. Contains (clause_at cs id) l) same c) in
       omega arith;
-}
-
--- a clause more
-named_before : {L : Type 0} (clauses : List (List L)) (clause : List L) (id : ℕ) → IsNamed (clauses ++ clause ∷ []) id
-    → IsNamed clauses id ⊎ (id ≡ length clauses + 1)
-named_before clauses clause id named =
-    let from = named.from_one in
-    let within = named.within in
-    let long = length-append clauses (clause ∷ []) in
-    ⊎_elim (λ lt. inl (record { from_one = from; within = omega arith }))
-    (λ ge. inr (omega arith)) (cases_lt (id - 1) (length clauses))
-
-pub clause_before : {L : Type 0} (clauses : List (List L)) (clause : List L) (id : ℕ) → IsNamed clauses id
-    → clause_at (clauses ++ clause ∷ []) id ≡ clause_at clauses id
-clause_before clauses clause id named =
-    let from = named.from_one in
-    let within = named.within in
-    get_or_append_left clauses (clause ∷ []) [] (id - 1) (omega arith)
-
-pub clause_last : {L : Type 0} (clauses : List (List L)) (clause : List L) (id : ℕ) → id ≡ length clauses + 1
-    → clause_at (clauses ++ clause ∷ []) id ≡ clause
-clause_last clauses clause id e =
-    let i : id - 1 ≡ length clauses = omega arith in
-    ap (λ k. get_or (clauses ++ clause ∷ []) k []) i ∙ get_or-append_seam clauses clause [] []
-
-pub clause_cases : {L : Type 0} (clauses : List (List L)) (clause : List L) (id : ℕ)
-    → IsNamed (clauses ++ clause ∷ []) id
-    → (IsNamed clauses id × (clause_at (clauses ++ clause ∷ []) id ≡ clause_at clauses id))
-    ⊎ ((id ≡ length clauses + 1) × (clause_at (clauses ++ clause ∷ []) id ≡ clause))
-clause_cases clauses clause id named =
-    ⊎_elim (λ old. inl (old, clause_before clauses clause id old))
-    (λ e. inr (e, clause_last clauses clause id e)) (named_before clauses clause id named)
-
-pub room_more : (old new : Search) (clause : List Lit) → new.clauses ≡ old.clauses ++ clause ∷ [] → old.vars ≤ new.vars
-    → ((l : Lit) → Contains clause l → l.var < new.vars) → HasRoom old → HasRoom new
-room_more old new clause e vars known room = record {
-  known = λ id l named c.
-      let c2 : Contains (clause_at (old.clauses ++ clause ∷ []) id) l = subst (λ cs. Contains (clause_at cs id) l)
-      e c in
-      ⊎_elim
-      (λ w. let lt = room.known id l w.0 (subst (λ xs. Contains xs l) w.1 c2) in omega arith)
-      (λ w. known l (subst (λ xs. Contains xs l) w.1 c2))
-      (clause_cases old.clauses clause id (subst (λ cs. IsNamed cs id) e named));
 }
 
 -- where two literals of a clause aren't false, it is neither false nor unit

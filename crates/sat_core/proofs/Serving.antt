@@ -1,8 +1,7 @@
 -- The look for a step that serves.
-use Rattle.std.proofs.Common.{◌≡◌, ◌≢◌, ℕ, ◌<◌, ◌≤◌, ◌+◌, List, [], ◌∷◌, ◌++◌, length, get_or, take, map}
-use Rattle.std.proofs.Common.{false, arith, ap, sym, subst, ◌∙◌, refl, ⊎_elim}
-use Rattle.std.specs.Prelude.{Contains, ◌⊎◌, Option, Some, None, IfSome}
-use Rattle.sat_core.specs.declared.sleepers.Sleeper.{Sleeper}
+use Rattle.std.proofs.Common.{◌≡◌, ◌≢◌, ℕ, ◌<◌, ◌≤◌, ◌+◌, List, [], ◌∷◌, ◌++◌, length, get_or, take, map, arith, ap}
+use Rattle.std.proofs.Common.{sym, subst, ◌∙◌, refl, ⊎_elim}
+use Rattle.std.specs.Prelude.{Contains, ◌⊎◌}
 use Rattle.std.proofs.lemmas.List.{get_or_default, take_more, map-append}
 use Rattle.std.proofs.lemmas.List.Elements.{Contains-push_cases, Contains-append_left}
 use Rattle.std.proofs.lemmas.Bool.{cases_lt}
@@ -16,7 +15,8 @@ use Rattle.plain_lits.specs.HintCheck.{IsTautology}
 use Rattle.clause_watches.proofs.Fronts.{from_front}
 use Rattle.hinted_log.specs.Logs.{Step, IsStepOf}
 use Rattle.sat_core.specs.Solving.{clause_of, Holds}
-use Rattle.sat_core.specs.Mirrors.{FalsifiesAll, IsSubsuming, step_of}
+use Rattle.sleeping_clauses.specs.Steps.{FalsifiesAll, step_of}
+use Rattle.sat_core.specs.Mirrors.{IsSubsuming}
 use Rattle.plain_lits.proofs.CheckingLemmas.{negation-negation, negation_same}
 
 pub denies_none : (clause lits : List Lit) → lits ≡ [] → FalsifiesAll (take 0 clause) lits
@@ -69,15 +69,6 @@ denies_same clause lits i d v lt plain h value ne =
           l c));
     }
 
--- the literals before an index and the one there
-pub front_more : (part : List Lit) (i : ℕ) (d : Lit) (P : Lit → Type 0) → i < length part
-    → ((x : Lit) → Contains (take i part) x → P x) → P (get_or part i d) → (x : Lit)
-    → Contains (take (i + 1) part) x → P x
-front_more part i d P lt before here x c =
-    ⊎_elim (λ old. before x old)
-    (λ (same : get_or part i d ≡ x). subst P same here)
-    (Contains-push_cases (take i part) (get_or part i d) x (subst (λ xs. Contains xs x) (take_more part i d lt) c))
-
 -- a step whose literals are all denied serves, and one with a literal that isn't denied doesn't
 pub served_of : (steps : List Step) (clause lits : List Lit) (number : ℕ) → FalsifiesAll clause lits
     → IsStepOf steps number
@@ -86,11 +77,6 @@ served_of steps clause lits number d step all = record {
   step = step;
   held = record { each = λ l c. d.back l (all l c) };
 }
-
-pub not_served : (steps : List Step) (clause lits : List Lit) (number : ℕ) → FalsifiesAll clause lits
-    → (l : Lit) × Contains (clause_of steps number) l × (Contains lits (negation l) → ⊥)
-    → Holds clause (clause_of steps number) → ⊥
-not_served steps clause lits number d w h = w.2 (d.there w.0 (h.each w.0 w.1))
 
 -- the step of the next id
 pub steps_more : (active ids : List ℕ) (steps new : List ℕ) (i step : ℕ) → i < length ids
@@ -101,10 +87,6 @@ steps_more active ids steps new i step lt e e2 e3 =
     ∙ (ap (λ x. map (step_of active) (take i ids) ++ x ∷ []) e3
     ∙ (sym (map-append (step_of active) (take i ids) (get_or ids i 0 ∷ []))
     ∙ ap (map (step_of active)) (sym (take_more ids i 0 lt)))))
-
--- what stands where there is no literal
-abbrev pub no_lit : Lit
-no_lit = record { var = 0; positive = false }
 
 -- none of the steps up to a number serves
 pub none_more : (steps : List Step) (clause lits part : List Lit) (index step : ℕ) → FalsifiesAll clause lits
@@ -121,32 +103,3 @@ none_more steps clause lits part index step d before e part_is w n pos le h =
     (subst (λ xs. Contains xs w.0) part_is w.1) in
     w.2 (d.there w.0 (h.each w.0 there)))
     (cases_lt n (index + 1))
-
--- the literals of a clause, one after the other
-pub lits_more : (clause lits new : List Lit) (i : ℕ) (l d : Lit) → i < length clause → lits ≡ take i clause
-    → new ≡ lits ++ l ∷ [] → l ≡ get_or clause i d → new ≡ take (i + 1) clause
-lits_more clause lits new i l d lt e e2 e3 =
-    e2 ∙ (ap (λ xs. xs ++ l ∷ []) e
-    ∙ (ap (λ x. take i clause ++ x ∷ []) e3 ∙ sym (take_more clause i d lt)))
-
--- of two literals one is taken
-pub rarer_kept : (clause : List Lit) (found result : Option Lit) (packed : Lit) → IfSome found (Contains clause)
-    → Contains clause packed → IfSome result (λ l. (l ≡ packed) ⊎ (found ≡ Some l)) → IfSome result (Contains clause)
-rarer_kept clause found None packed h c r = tt
-rarer_kept clause found (Some l) packed h c r =
-    ⊎_elim (λ e. subst (Contains clause) (sym e) c) (λ e. subst (λ o. IfSome o (Contains clause)) e h) r
-
--- none of the sleepers up to an index serves
-pub sleepers_more : (steps : List Step) (asleep : List Sleeper) (clause lits : List Lit) (i : ℕ) (x : Sleeper)
-    → FalsifiesAll clause lits → i < length asleep → ((d : Sleeper) → get_or asleep i d ≡ x)
-    → ((y : Sleeper) → Contains (take i asleep) y → Holds clause (clause_of steps y.step) → ⊥)
-    → (l : Lit) × Contains (clause_of steps x.step) l × (Contains lits (negation l) → ⊥)
-    → (y : Sleeper) → Contains (take (i + 1) asleep) y → Holds clause (clause_of steps y.step) → ⊥
-sleepers_more steps asleep clause lits i x d lt at before w y c h =
-    ⊎_elim (λ old. before y old h)
-    (λ (same : get_or asleep i x ≡ y).
-    let e : x ≡ y = sym (at x) ∙ same in
-    not_served steps clause lits x.step d w
-    (subst (λ (z : Sleeper). Holds clause (clause_of steps z.step)) (sym e) h))
-    (Contains-push_cases (take i asleep) (get_or asleep i x) y
-    (subst (λ xs. Contains xs y) (take_more asleep i x lt) c))

@@ -1,6 +1,6 @@
 -- One turn of a search: a clause is learned, or the search ends.
-use Rattle.std.proofs.Common.{◌≡◌, ℕ, ◌<◌, ◌≤◌, ◌+◌, List, [], ◌∷◌, ◌++◌, length, take, map}
-use Rattle.std.proofs.Common.{arith, ap, sym, subst, ◌∙◌, refl, inl, inr, ⊎_elim, Ok, length-take}
+use Rattle.std.proofs.Common.{◌≡◌, ℕ, ◌<◌, ◌≤◌, ◌+◌, List, [], ◌∷◌, ◌++◌, length, take, map, arith, ap, sym, subst, ◌∙◌}
+use Rattle.std.proofs.Common.{refl, inl, inr, ⊎_elim, Ok, length-take}
 use Rattle.std.specs.Prelude.{Contains}
 use Rattle.plain_lits.specs.declared.lit.Lit.{Lit}
 use Rattle.plain_lits.specs.Literals.{negation}
@@ -8,17 +8,16 @@ use Rattle.plain_lits.specs.HintCheck.{IsNamed, IsFalsified, IsUnit, IsTautology
 use Rattle.hinted_log.specs.Logs.{Step, LogState, IsStepOf, clauses_of, derived_step}
 use Rattle.unit_propagate.specs.Search.{Search, IsSearch, GoesBack, Learns}
 use Rattle.conflict_learn.specs.Learning.{IsLearned, IsNew, IsOpen, IsAssumed}
-use Rattle.sat_core.specs.Solving.{SolverState, clause_of, IsShown, IsUnitOf, EndsCore}
-use Rattle.sat_core.specs.Solving.{with_unit}
-use Rattle.sat_core.specs.Mirrors.{IsMirror, step_of, AreIds, IsDerived, IsSubsuming, HasNoSubsuming}
+use Rattle.sat_core.specs.Solving.{SolverState, clause_of, IsShown, IsUnitOf, EndsCore, with_unit}
+use Rattle.sleeping_clauses.specs.Steps.{IsMirror, step_of}
+use Rattle.sat_core.specs.Mirrors.{AreIds, IsDerived, IsSubsuming, HasNoSubsuming, AreShared}
 use Rattle.sat_core.specs.Runs.{IsRun}
-use Rattle.sat_core.specs.Sleeping.{AreShared, HasNoSubsumingSleeper}
-use Rattle.sat_core.specs.declared.sleepers.Sleeper.{Sleeper}
+use Rattle.sleeping_clauses.specs.Sleeping.{HasNoSubsumingSleeper}
+use Rattle.sleeping_clauses.specs.declared.sleepers.Sleeper.{Sleeper}
 use Rattle.sat_core.specs.Turns.{IsAsserting}
 use Rattle.sat_core.proofs.Running.{back, learned, back_lits, lits_below, core_lits, not_assumed}
 use Rattle.std.proofs.lemmas.List.{length-map}
-use Rattle.sat_core.proofs.Mirroring.{hints_named, unit_of, shown_of, clause_new, step_new}
-use Rattle.sat_core.proofs.Mirroring.{moved}
+use Rattle.sat_core.proofs.Mirroring.{hints_named, unit_of, shown_of, clause_new, step_new, moved}
 
 -- the level to which a search goes back lies below the last one
 pub target_within : (s : Search) (level target : ℕ) → level < length s.starts → 2 < length s.starts

@@ -1,15 +1,14 @@
 -- The inner state of a search, which no caller sees: the first level has the front, which is kept from one search to
 -- the next, the second has the other assumptions, and each level above them was begun by a decision when nothing was
 -- left to propagate.
-use Rattle.std.specs.Prelude.{◌≡◌, ◌⊎◌, ℕ, ◌<◌, ◌≤◌, Bool, true, false, List, length, take, Contains}
-use Rattle.std.specs.Prelude.{Option, None, Some}
-use Rattle.std.specs.Prelude.{slice_index, slice_index_or}
+use Rattle.std.specs.Prelude.{◌≡◌, ◌⊎◌, ℕ, ◌<◌, ◌≤◌, Bool, true, false, List, length, take, Contains, Option, None}
+use Rattle.std.specs.Prelude.{Some, slice_index, slice_index_or}
 use Rattle.plain_lits.specs.declared.lit.Lit.{Lit}
 use Rattle.plain_lits.specs.declared.value.Value.TheVariants.{Unset}
-use Rattle.plain_lits.specs.HintCheck.{clause_at, IsNamed}
 use Rattle.plain_lits.specs.Values.{IsValueIn}
 use Rattle.unit_propagate.specs.Search.{Search, IsQuiet, IsConflict}
 use Rattle.conflict_learn.specs.Learning.{StandsAt}
+use Rattle.sleeping_clauses.specs.Steps.{HasRoom}
 
 -- an index lies below each level but the first two
 pub record IsEarly (starts : List ℕ) (index : ℕ) : Type 0 where
@@ -32,10 +31,6 @@ pub record IsThere (s : Search) (l : Lit) : Type 0 where
 pub record IsGround (s : Search) (assumptions : List Lit) (index : ℕ) : Type 0 where
   pub assumed : (d : Lit) → Contains assumptions (slice_index_or s.lits index d)
   pub early : IsEarly s.starts index
-
--- each literal of a clause is within the known variables
-pub record HasRoom (s : Search) : Type 0 where
-  pub known : (id : ℕ) (l : Lit) → IsNamed s.clauses id → Contains (clause_at s.clauses id) l → l.var < s.vars
 
 -- how many literals are true on the first level
 abbrev pub front_end : Search → ℕ

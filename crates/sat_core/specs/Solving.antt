@@ -1,7 +1,6 @@
 -- What contracts see of a solver, and what a search tells and leaves.
-use Rattle.std.specs.Prelude.{◌≡◌, ◌⊎◌, ℕ, ◌+◌, ◌<◌, ◌≤◌, List, [], ◌∷◌, ◌++◌, length, take, Contains, Option}
-use Rattle.std.specs.Prelude.{None, Some}
-use Rattle.std.specs.Prelude.{Result, Ok, Err, slice_index_or}
+use Rattle.std.specs.Prelude.{◌≡◌, ◌⊎◌, ℕ, ◌+◌, ◌<◌, ◌≤◌, List, [], ◌∷◌, ◌++◌, length, take, Contains, Option, None}
+use Rattle.std.specs.Prelude.{Some, Result, Ok, Err, slice_index_or}
 use Rattle.std.specs.List.Sorted.{IsStrictlyIncreasing}
 use Rattle.plain_lits.specs.declared.lit.Lit.{Lit}
 use Rattle.plain_lits.specs.declared.halt.Halt.{Halt}
@@ -9,10 +8,10 @@ use Rattle.plain_lits.specs.declared.halt.Halt.TheVariants.{Spent, LogFull, Memo
 use Rattle.plain_lits.specs.Literals.{negation}
 use Rattle.plain_lits.specs.HintCheck.{IsTautology, Checks}
 use Rattle.plain_lits.specs.Units.{Units}
-use Rattle.hinted_log.specs.Logs.{Step, LogState, log_of, no_step, IsLog, IsStepOf, step_at, clauses_of}
-use Rattle.hinted_log.specs.Logs.{given_step, derived_step}
-use Rattle.hinted_log.specs.Logs.{AddsStep, AddsDerived}
+use Rattle.hinted_log.specs.Logs.{Step, LogState, log_of, no_step, IsLog, IsStepOf, clauses_of, given_step}
+use Rattle.hinted_log.specs.Logs.{derived_step, AddsStep, AddsDerived}
 use Rattle.hinted_log.specs.declared.step_kind.StepKind.TheVariants as kind
+pub use Rattle.sleeping_clauses.specs.Steps.{clause_of, Holds}
 use Rattle.sat_core.specs.declared.answer.Added.{Added}
 use Rattle.sat_core.specs.declared.answer.Added.TheVariants.{Axiom, Side, Derived}
 use Rattle.sat_core.specs.declared.answer.UnaddedClause.{UnaddedClause}
@@ -26,19 +25,11 @@ pub record SolverState : Type 0 where
   pub active : List ℕ
   pub pending : Option UnaddedClause
 
--- the clause of a step
-abbrev pub clause_of : List Step → ℕ → List Lit
-clause_of steps number = (step_at steps number).clause
-
 -- the form of a solver: a log, and steps of it in the order of their numbers
 pub record IsSolver (s : SolverState) : Type 0 where
   pub log_form : IsLog s.log
   pub rises : IsStrictlyIncreasing s.active
   pub named : (number : ℕ) → Contains s.active number → IsStepOf s.log.steps number
-
--- a clause has each literal of another
-pub record Holds (clause part : List Lit) : Type 0 where
-  pub each : (l : Lit) → Contains part l → Contains clause l
 
 -- steps in use show a clause: the check takes it by them, and needs each; each literal of the clause stands in a
 -- hint's clause

@@ -14,7 +14,7 @@ use Rattle.sat_core.specs.declared.cdcl.End.TheVariants.{Satisfied, Refuted, Sto
 use Rattle.sat_core.specs.declared.cdcl.Resolved.{Resolved}
 use Rattle.sat_core.specs.declared.cdcl.Resolved.TheVariants.{Learned, Woken, Ended}
 use Rattle.sat_core.specs.Solving.{SolverState, Learns, IsUnitOf, IsModel, EndsCore, StopsAs, with_unit}
-use Rattle.sat_core.specs.Sleeping.{IsHeld}
+use Rattle.sat_core.specs.Mirrors.{IsHeld}
 use Rattle.sat_core.specs.Runs.{IsRun, IsFronted, IsResting, IsReadyFor}
 
 -- what contracts see

@@ -14,16 +14,16 @@ ghost use Rattle.sat_core.specs.Turns.{Resolves, NotEnded, HasRested, Tells};
 use crate::answer::{Added, Solved, UnaddedClause};
 use crate::decision_loop::{DecisionLoop, bump_all};
 use crate::fronts::{begins_with, has_false, size_of_front};
-use crate::loading::{Loaded, load, unpacked};
 use crate::logged_clauses::{
-    LoggedClauses, derive, push_levels, record, steps_of, subsuming_sleeper, subsuming_step,
+    LoggedClauses, derive, record, steps_of, subsuming_sleeper, subsuming_step,
 };
-use crate::pace::levels_of;
-use crate::sleepers::{bar_of, counts_of, sleeper_at};
 use conflict_learn::{Core, Learned, Learner};
 use hinted_log::{Log, LogFault, MAX_STEPS};
 use lists::{Items, Memory};
 use plain_lits::{Budget, Clause, Halt, Lit, StepId, Trail};
+use sleeping_clauses::{
+    Loaded, bar_of, counts_of, levels_of, load, push_levels, sleeper_at, unpacked,
+};
 use std::alloc::Global;
 use unit_propagate::Propagator;
 

@@ -7,10 +7,10 @@ ghost use Rattle.unit_propagate.specs.Search.{GoesBack};
 ghost use Rattle.sat_core.specs.Runs.{GoesOn, HasPropagated, HasDecided, HaveValues, HaveValuesFrom, IsUnsetIn};
 ghost use Rattle.sat_core.specs.Runs.{IsUnsetVar, IsFronted, IsResting};
 
-use crate::pace::Pace;
 use decision_order::DecisionOrder;
 use lists::Memory;
 use plain_lits::{Lit, PackedLit, Value};
+use sleeping_clauses::Pace;
 use std::alloc::Global;
 use unit_propagate::{Propagated, Propagator};
 

@@ -5,10 +5,7 @@ pub mod answer;
 mod cdcl;
 mod decision_loop;
 mod fronts;
-mod loading;
 mod logged_clauses;
-mod pace;
-mod sleepers;
 mod solver;
 
 pub use answer::{Added, Solved, UnaddedClause};

@@ -8,14 +8,15 @@ ghost use Rattle.plain_lits.specs.Literals.{negation};
 ghost use Rattle.plain_lits.specs.HintCheck.{IsTautology, Checks};
 ghost use Rattle.hinted_log.specs.Logs.{IsStepOf, clauses_of};
 ghost use Rattle.sat_core.specs.Solving.{Records, IsRejected, clause_of};
-ghost use Rattle.sat_core.specs.Sleeping.{AreSleepers, HasNoSubsumingSleeper};
-ghost use Rattle.sat_core.specs.Mirrors.{step_of, AreIds, IsDerived, FalsifiesAll, IsSubsuming, HasNoSubsuming};
+ghost use Rattle.sleeping_clauses.specs.Sleeping.{AreSleepers, HasNoSubsumingSleeper};
+ghost use Rattle.sleeping_clauses.specs.Steps.{step_of, FalsifiesAll};
+ghost use Rattle.sat_core.specs.Mirrors.{AreIds, IsDerived, IsSubsuming, HasNoSubsuming};
 
 use crate::answer::Added;
-use crate::sleepers::{Sleeper, first_falsified_sleeper};
 use hinted_log::{Log, LogFault};
 use lists::{Items, Memory};
-use plain_lits::{Clause, Lit, PackedLit, StepId, Trail, Value};
+use plain_lits::{Clause, Lit, StepId, Trail, Value};
+use sleeping_clauses::{Sleeper, first_falsified_sleeper, is_falsified};
 use std::alloc::Global;
 
 /// A log, and the numbers of its steps in use. Those that are `awake` are the propagator's clauses, in the order of
@@ -106,20 +107,6 @@ fn falsify(trail: &mut Trail, clause: &[Lit])
     }
 }
 
-/// Whether all literals of a clause are false.
-pub(crate) fn is_falsified(trail: &Trail, part: &[PackedLit]) -> bool
-    ensures falsified { OnTrue result ((l : Lit) → Contains part.now l → Contains trail.now.lits (negation l)) }
-    ensures free { OnFalse result ((l : Lit) × Contains part.now l × (Contains trail.now.lits (negation l) → ⊥)) }
-{
-    for packed in part {
-        match trail.value(packed.lit()) {
-            Value::False => {}
-            _ => return false,
-        }
-    }
-    true
-}
-
 /// Whether all literals of a step's clause are false. Where the first one isn't, the others are not looked at.
 fn is_falsified_step(log: &Log, trail: &Trail, step: StepId) -> bool
     requires { IsStepOf log.now.steps step }
@@ -188,10 +175,4 @@ pub(crate) fn subsuming_sleeper(
     falsified.make_room(vars)?;
     falsify(falsified, clause);
     Ok(first_falsified_sleeper(log, asleep, falsified, clause))
-}
-
-/// Notes the number of levels of a clause that is about to come.
-pub(crate) fn push_levels(levels: &mut Vec<u32>, number: u32) -> Result<(), Memory> {
-    levels.push(number)?;
-    Ok(())
 }

@@ -2,7 +2,7 @@ use Rattle.std.proofs.Common.{get_or, subst, sym}
 use Rattle.std.specs.Prelude.{Contains}
 use Rattle.std.proofs.lemmas.List.{take_all}
 use Rattle.plain_lits.specs.Literals.{negation}
-use Rattle.sat_core.proofs.Serving.{front_more, no_lit}
+use Rattle.sleeping_clauses.proofs.Falsifying.{front_more, no_lit}
 use Rattle.sat_core.proofs.Fronting.{not_false}
 use Rattle.sat_core.proofs.fronts.has_false.Goals as goal
 

@@ -1,7 +1,8 @@
 use Rattle.std.proofs.Common.{arith, get_or, ap, ◌∙◌, ◌++◌, ◌∷◌, []}
 use Rattle.std.proofs.lemmas.List.Elements.{Contains-get_or}
 use Rattle.plain_lits.specs.declared.lit.Lit.{Lit}
-use Rattle.sat_core.proofs.Serving.{denies_more, denies_same, no_lit}
+use Rattle.sat_core.proofs.Serving.{denies_more, denies_same}
+use Rattle.sleeping_clauses.proofs.Falsifying.{no_lit}
 use Rattle.sat_core.proofs.logged_clauses.falsify.Goals as goal
 use Rattle.sat_core.proofs.logged_clauses.falsify.Goals.{in-Unset, in_default}
 

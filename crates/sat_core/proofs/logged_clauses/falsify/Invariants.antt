@@ -1,5 +1,5 @@
 use Rattle.std.proofs.Common.{◌≡◌, take}
-use Rattle.sat_core.specs.Mirrors.{FalsifiesAll}
+use Rattle.sleeping_clauses.specs.Steps.{FalsifiesAll}
 use Rattle.sat_core.proofs.logged_clauses.falsify.Given as goal
 
 abbrev pub invariant-loop-lit : goal.invariant-loop-lit

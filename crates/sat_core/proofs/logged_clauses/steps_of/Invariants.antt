@@ -1,5 +1,5 @@
 use Rattle.std.proofs.Common.{◌≡◌, map, take}
-use Rattle.sat_core.specs.Mirrors.{step_of}
+use Rattle.sleeping_clauses.specs.Steps.{step_of}
 use Rattle.sat_core.proofs.logged_clauses.steps_of.Given as goal
 
 abbrev pub invariant-loop-id : goal.invariant-loop-id

@@ -1,6 +1,7 @@
 use Rattle.std.proofs.Common.{◌≡◌, arith, subst, refl, map}
 use Rattle.std.specs.Prelude.{Contains}
-use Rattle.sat_core.specs.Mirrors.{IsSubsuming, HasNoSubsuming, step_of}
+use Rattle.sat_core.specs.Mirrors.{IsSubsuming, HasNoSubsuming}
+use Rattle.sleeping_clauses.specs.Steps.{step_of}
 use Rattle.sat_core.specs.Turns.{state_of}
 use Rattle.sat_core.proofs.Turning.{known_of, ids_of, moved_to, core_served, core_derived, core_shown}
 use Rattle.sat_core.proofs.Holding.{held_derived}

@@ -3,8 +3,8 @@ use Rattle.std.specs.Prelude.{Contains}
 use Rattle.plain_lits.specs.Literals.{negation}
 use Rattle.plain_lits.specs.HintCheck.{IsTautology}
 use Rattle.hinted_log.proofs.Proofs.{not_so}
-use Rattle.sat_core.specs.Mirrors.{step_of}
-use Rattle.sat_core.specs.Sleeping.{AreSleepers, HasNoSubsumingSleeper}
+use Rattle.sleeping_clauses.specs.Steps.{step_of}
+use Rattle.sleeping_clauses.specs.Sleeping.{AreSleepers, HasNoSubsumingSleeper}
 use Rattle.sat_core.specs.Turns.{state_of}
 use Rattle.sat_core.proofs.Keeping.{derives_same}
 use Rattle.sat_core.proofs.Running.{has_decided, has_settled}

@@ -2,7 +2,7 @@ use Rattle.std.proofs.Common.{length, arith, ap, sym, subst}
 use Rattle.sat_core.specs.Runs.{IsResting}
 use Rattle.sat_core.proofs.Fronting.{fronted_none}
 use Rattle.sat_core.proofs.Holding.{active_step, held_loaded}
-use Rattle.sat_core.specs.Sleeping.{AreSleepers}
+use Rattle.sleeping_clauses.specs.Sleeping.{AreSleepers}
 use Rattle.sat_core.proofs.cdcl.Cdcl.load_some.Goals as goal
 
 pub counts_of-requires : goal.counts_of-requires

@@ -1,7 +1,8 @@
 use Rattle.std.proofs.Common.{◌≡◌, [], length, ap, sym, subst, arith, rules}
 use Rattle.sat_core.specs.Runs.{IsFronted}
 use Rattle.sat_core.proofs.Fronting.{fronted_none}
-use Rattle.sat_core.proofs.Holding.{held_none, room_none}
+use Rattle.sat_core.proofs.Holding.{held_none}
+use Rattle.sleeping_clauses.proofs.Mirroring.{room_none}
 use Rattle.sat_core.proofs.cdcl.Cdcl.open.Goals as goal
 
 pub returns-clause-rest : goal.returns-clause-rest

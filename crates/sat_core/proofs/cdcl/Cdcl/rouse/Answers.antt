@@ -1,5 +1,5 @@
 use Rattle.std.proofs.Common.{◌≡◌, ◌++◌, ◌∷◌, [], ◌∙◌, List, length, arith, ap, refl, rules}
-use Rattle.sat_core.specs.declared.sleepers.Sleeper.{Sleeper}
+use Rattle.sleeping_clauses.specs.declared.sleepers.Sleeper.{Sleeper}
 use Rattle.sat_core.proofs.Running.{resting_stays, resting_more}
 use Rattle.sat_core.proofs.Holding.{held_as, held_woken, fewer_asleep}
 use Rattle.sat_core.proofs.cdcl.Cdcl.rouse.Goals as goal

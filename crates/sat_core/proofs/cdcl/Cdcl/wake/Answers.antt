@@ -1,5 +1,5 @@
 use Rattle.std.proofs.Common.{◌<◌, List, length, ap, arith, sym, subst, ◌∙◌}
-use Rattle.sat_core.specs.declared.sleepers.Sleeper.{Sleeper}
+use Rattle.sleeping_clauses.specs.declared.sleepers.Sleeper.{Sleeper}
 use Rattle.sat_core.proofs.Fronting.{on_ok}
 use Rattle.sat_core.proofs.Resolving.{kept_of, kept_either}
 use Rattle.sat_core.proofs.Running.{plain_assumptions}

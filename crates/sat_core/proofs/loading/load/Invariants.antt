@@ -1,6 +1,0 @@
-use Rattle.std.proofs.Common.{take}
-use Rattle.sat_core.specs.Sleeping.{AreLoaded}
-use Rattle.sat_core.proofs.loading.load.Given as goal
-
-abbrev pub invariant-loop-index : goal.invariant-loop-index
-invariant-loop-index l = AreLoaded l.loaded l.asleep (take l.index l.awake) l.log.steps

@@ -1,4 +1,0 @@
-use Rattle.sat_core.proofs.pace.levels_of.Given as goal
-
-abbrev pub invariant-loop-lit : goal.invariant-loop-lit
-invariant-loop-lit l = Unit {0}

@@ -1,0 +1,34 @@
+-- Clauses beside the steps of a log.
+use Rattle.std.specs.Prelude.{◌≡◌, ℕ, ◌-◌, ◌<◌, List, length, slice_index, Contains}
+use Rattle.plain_lits.specs.declared.lit.Lit.{Lit}
+use Rattle.plain_lits.specs.HintCheck.{clause_at, IsNamed}
+use Rattle.plain_lits.specs.Literals.{negation}
+use Rattle.hinted_log.specs.Logs.{Step, IsStepOf, step_at}
+use Rattle.unit_propagate.specs.Search.{Search}
+
+-- the clause of a step
+abbrev pub clause_of : List Step → ℕ → List Lit
+clause_of steps number = (step_at steps number).clause
+
+-- a clause has each literal of another
+pub record Holds (clause part : List Lit) : Type 0 where
+  pub each : (l : Lit) → Contains part l → Contains clause l
+
+-- the step of a clause's id
+abbrev pub step_of : List ℕ → ℕ → ℕ
+step_of active id = slice_index active (id - 1)
+
+-- the clauses of a propagator are those of steps
+pub record IsMirror (clauses : List (List Lit)) (active : List ℕ) (steps : List Step) : Type 0 where
+  pub long : length active ≡ length clauses
+  pub named : (id : ℕ) → IsNamed clauses id → IsStepOf steps (step_of active id)
+  pub same : (id : ℕ) → IsNamed clauses id → clause_of steps (step_of active id) ≡ clause_at clauses id
+
+-- just the negations of a clause's literals are true
+pub record FalsifiesAll (clause lits : List Lit) : Type 0 where
+  pub there : (l : Lit) → Contains clause l → Contains lits (negation l)
+  pub back : (l : Lit) → Contains lits (negation l) → Contains clause l
+
+-- each literal of a clause is within the known variables
+pub record HasRoom (s : Search) : Type 0 where
+  pub known : (id : ℕ) (l : Lit) → IsNamed s.clauses id → Contains (clause_at s.clauses id) l → l.var < s.vars
