@@ -10,19 +10,20 @@ _argue() {
         bench) options="-n -x" ;;
         names) options="-p -k -a -f -b -c" ;;
         af) options="-k -f" ;;
+        lrat) options="-d -l" ;;
         *) options="-p -a -f -b -c" ;;
     esac
     case $before in
         -p) COMPREPLY=($(compgen -W "$tasks" -- "$word")) ;;
         -k) COMPREPLY=($(compgen -W "apx tgf" -- "$word")) ;;
-        -f | -r | -s | -c)
+        -f | -r | -s | -c | -d | -l)
             local IFS=$'\n'
             compopt -o filenames 2>/dev/null
             COMPREPLY=($(compgen -f -- "$word"))
             ;;
         -a | -b | -n | -x) ;;
         *)
-            [ "$COMP_CWORD" -ne 1 ] || options="$options check live bench names af --problems --help --version"
+            [ "$COMP_CWORD" -ne 1 ] || options="$options check live bench names af lrat --problems --help --version"
             COMPREPLY=($(compgen -W "$options" -- "$word"))
             ;;
     esac

@@ -433,6 +433,9 @@ is "completion of a task" "$complete" "DC-ST DC-SST DC-STG"
 complete=$(. "$room/root/opt/a/share/bash-completion/completions/argue" &&
     COMP_WORDS=(argue check -) COMP_CWORD=2 && _argue && echo "${COMPREPLY[*]}")
 is "completion of options" "$complete" "-p -a -f -r -c"
+complete=$(. "$room/root/opt/a/share/bash-completion/completions/argue" &&
+    COMP_WORDS=(argue lrat -) COMP_CWORD=2 && _argue && echo "${COMPREPLY[*]}")
+is "completion of the options of lrat" "$complete" "-d -l"
 run make -s uninstall DESTDIR="$room/root" PREFIX=/opt/a
 is "make uninstall" "$(find "$room/root" -type f)" ""
 

@@ -50,7 +50,7 @@ follow_unrefused found more WriteFault h = tt
 follow_unrefused found more WantOfMemory h = tt
 follow_unrefused found more Unknown h = tt
 follow_unrefused found more (Limit l) h = tt
-follow_unrefused found more (Rejected failure refutation step) h = tt
+follow_unrefused found more (Rejected rejection) h = tt
 
 passes_unrefused : (found : Reading) (one : Input) (end : Status) → IsUnrefused end → IsRead found one
     → Passes found end one
@@ -62,7 +62,7 @@ passes_unrefused found one WriteFault h r = r
 passes_unrefused found one WantOfMemory h r = r
 passes_unrefused found one Unknown h r = r
 passes_unrefused found one (Limit l) h r = r
-passes_unrefused found one (Rejected failure refutation step) h r = r
+passes_unrefused found one (Rejected rejection) h r = r
 
 -- the first input ends the run
 pub first_stops : (found : Reading) (one : Input) (more : List Input) (end : Status) → EndsReading found one end
@@ -97,7 +97,7 @@ still_stops h S S' c n one Done still stops = absurd stops
 still_stops h S S' c n one Usage still stops = absurd stops
 still_stops h S S' c n one WriteFault still stops = absurd stops
 still_stops h S S' c n one WantOfMemory still stops = absurd stops
-still_stops h S S' c n one (Rejected failure refutation step) still stops = absurd stops
+still_stops h S S' c n one (Rejected rejection) still stops = absurd stops
 
 pub moved : (h h' : List ℕ → KnownFile) (S S' : List ℕ → Type 0) (c c' n : Role → ℕ) (one : Input) (end : Status)
     → h' ≡ h → HoldsStill S S' → c' ≡ c → EndsReading (parts h' S' c' n) one end → EndsReading (parts h S c n) one end
@@ -115,6 +115,8 @@ framework_sound bytes f reads line (cause.Script c) first = first
 framework_sound bytes f reads line (cause.Answer c) first = first
 framework_sound bytes f reads line (cause.Certificate c) first = first
 framework_sound bytes f reads line (cause.Name c) first = first
+framework_sound bytes f reads line (cause.Cnf c) first = first
+framework_sound bytes f reads line (cause.Lrat c) first = first
 
 pub answer_sound : (bytes : List ℕ) (a : Answer) → AnswerReadsAs (filled_fields bytes) a → IsSoundIn role.Answer bytes
 answer_sound bytes a reads line (cause.Answer c) first =
@@ -123,6 +125,8 @@ answer_sound bytes a reads line (cause.Framework c) first = first
 answer_sound bytes a reads line (cause.Script c) first = first
 answer_sound bytes a reads line (cause.Certificate c) first = first
 answer_sound bytes a reads line (cause.Name c) first = first
+answer_sound bytes a reads line (cause.Cnf c) first = first
+answer_sound bytes a reads line (cause.Lrat c) first = first
 
 pub certificate_sound : (bytes : List ℕ) (k : Certificate) → CertReadsAs bytes (Ok k) → IsSoundIn role.Certificate bytes
 certificate_sound bytes k reads line (cause.Certificate c) first =
@@ -132,6 +136,8 @@ certificate_sound bytes k reads line (cause.Framework c) first = first
 certificate_sound bytes k reads line (cause.Script c) first = first
 certificate_sound bytes k reads line (cause.Answer c) first = first
 certificate_sound bytes k reads line (cause.Name c) first = first
+certificate_sound bytes k reads line (cause.Cnf c) first = first
+certificate_sound bytes k reads line (cause.Lrat c) first = first
 
 -- a fault of the framework is the first of all
 pub framework_fault : (bytes : CheckBytes) (f : FrameworkFault)
@@ -208,7 +214,7 @@ text_stops found texts bytes Usage has is = absurd is
 text_stops found texts bytes (ReadFault of) has is = absurd is
 text_stops found texts bytes WriteFault has is = absurd is
 text_stops found texts bytes (Limit l) has is = absurd is
-text_stops found texts bytes (Rejected failure refutation step) has is = absurd is
+text_stops found texts bytes (Rejected rejection) has is = absurd is
 
 pub stops_told : (found : Reading) (inputs : List Input) (end : Status) → StopsAtFirst found end inputs → end ≢ Done
 stops_told found [] end stops is = stops
@@ -225,7 +231,7 @@ not_done_told WriteFault other = refl
 not_done_told WantOfMemory other = refl
 not_done_told Unknown other = refl
 not_done_told (Limit l) other = refl
-not_done_told (Rejected failure refutation step) other = refl
+not_done_told (Rejected rejection) other = refl
 
 -- a run that reading ended has a text of its own
 pub reading_told : (found : Reading) (inputs : List Input) (end : Status) → StopsReading found inputs end

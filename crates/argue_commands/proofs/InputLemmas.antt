@@ -19,7 +19,7 @@ follow_none found WriteFault = tt
 follow_none found WantOfMemory = tt
 follow_none found Unknown = tt
 follow_none found (Limit limit) = tt
-follow_none found (Rejected failure refutation step) = tt
+follow_none found (Rejected rejection) = tt
 
 pub one_in : (x : Input) → Contains (x ∷ []) x
 one_in x = (0, omega arith, refl)
@@ -36,12 +36,12 @@ common_text-reading found one (Limit limit) h = refl
 common_text-reading found one Done (inl stops) = absurd stops
 common_text-reading found one Done (inr memory) = cc
 common_text-reading found one WriteFault h = refl
-common_text-reading found one (Rejected failure refutation step) h = refl
+common_text-reading found one (Rejected rejection) h = refl
 
 -- a status beside that of a refusal is no read fault
 pub no_read_fault : (end : Status) → IsRefusal end → (role : Role) → end ≢ ReadFault role
 no_read_fault (InputRefused refusal) h role = λ e. cc
-no_read_fault (Rejected failure refutation step) h role = λ e. cc
+no_read_fault (Rejected rejection) h role = λ e. cc
 no_read_fault Done h role = absurd h
 no_read_fault Usage h role = absurd h
 no_read_fault (ReadFault other) h role = absurd h

@@ -38,6 +38,8 @@ readable_sound bytes line (cause.Script c) reads first = first
 readable_sound bytes line (cause.Answer c) reads first = first
 readable_sound bytes line (cause.Certificate c) reads first = first
 readable_sound bytes line (cause.Name c) reads first = first
+readable_sound bytes line (cause.Cnf c) reads first = first
+readable_sound bytes line (cause.Lrat c) reads first = first
 
 -- and no fault
 pub readable_or_faulty : (bytes : List ℕ) → IsReadable bytes → ¬ IsFaulty bytes

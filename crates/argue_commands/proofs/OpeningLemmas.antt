@@ -35,6 +35,8 @@ script_sound bytes s reads line (cause.Framework c) first = first
 script_sound bytes s reads line (cause.Answer c) first = first
 script_sound bytes s reads line (cause.Certificate c) first = first
 script_sound bytes s reads line (cause.Name c) first = first
+script_sound bytes s reads line (cause.Cnf c) first = first
+script_sound bytes s reads line (cause.Lrat c) first = first
 
 -- a fault of the framework is the first of all
 pub framework_fault_live : (bytes : LiveBytes) (f : FrameworkFault)
@@ -81,7 +83,7 @@ live_fault_stops found texts bytes Usage has is = absurd is
 live_fault_stops found texts bytes (ReadFault of) has is = absurd is
 live_fault_stops found texts bytes WriteFault has is = absurd is
 live_fault_stops found texts bytes (Limit l) has is = absurd is
-live_fault_stops found texts bytes (Rejected failure refutation step) has is = absurd is
+live_fault_stops found texts bytes (Rejected rejection) has is = absurd is
 
 -- what the texts' reading tells of the files
 module _ (found : Reading) (texts : LiveTexts) (bytes : LiveBytes) (has : HasLiveBytes found.holds texts bytes) where

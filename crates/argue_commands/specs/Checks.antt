@@ -24,6 +24,7 @@ use Rattle.iccma_tasks.specs.declared.fault.AnswerFault.TheVariants as answer_fa
 use Rattle.certificate_text.specs.declared.fault.CertFault.{CertFault}
 use Rattle.certificate_text.specs.declared.fault.CertFault.TheVariants as certificate_fault
 use Rattle.argue_commands.specs.declared.ended.Refusal.TheVariants.{Line, Query}
+use Rattle.argue_commands.specs.declared.ended.Rejection.TheVariants.{Certificate as OfCertificate}
 use Rattle.argue_commands.specs.declared.ended.Status.{Status}
 use Rattle.argue_commands.specs.declared.ended.Status.TheVariants.{Done, InputRefused, WantOfMemory, Rejected}
 
@@ -36,7 +37,7 @@ check_inputs texts =
 -- its first failure; a query that doesn't fit is refused before
 abbrev pub CheckEnds : Framework → Asked → Answer → Certificate → Status → Type 0
 CheckEnds f asked answer certificate Done = Fits f asked × IsVerdict f asked answer certificate Accepted
-CheckEnds f asked answer certificate (Rejected failure refutation step) =
+CheckEnds f asked answer certificate (Rejected (OfCertificate failure refutation step)) =
     Fits f asked × IsVerdict f asked answer certificate (IsRejected failure refutation step)
 CheckEnds f asked answer certificate (InputRefused (Query fault)) = IsFaultOf f asked fault
 CheckEnds f asked answer certificate _ = ⊥

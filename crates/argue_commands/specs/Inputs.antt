@@ -2,11 +2,12 @@
 use Rattle.std.specs.Prelude.{◌≡◌, ℕ, ◌≤◌, ◌⊎◌, List, [], ◌∷◌, length, Contains, Err, Option, None, Some}
 use Rattle.apx_tgf.specs.Faults.{IsFirstFault as IsFirstNameFault}
 use Rattle.apx_tgf.specs.declared.format.NameFormat.{NameFormat}
+use Rattle.lrat_text.specs.CnfText.{IsCnfFault}
 use Rattle.argue_outside.specs.Outside.{FaultCounted, HoldsWhole, IsLonger, KnownFile}
 use Rattle.argue_outside.specs.declared.Files.{Ghosts as FilesWords}
 use Rattle.argue_outside.specs.declared.Role.{Role}
 use Rattle.argue_outside.specs.declared.Role.TheVariants.{Framework, Script as OfScript, Answer as OfAnswer}
-use Rattle.argue_outside.specs.declared.Role.TheVariants.{Certificate as OfCertificate}
+use Rattle.argue_outside.specs.declared.Role.TheVariants.{Certificate as OfCertificate, Cnf as OfCnf}
 use Rattle.iccma_tasks.specs.AnswerText.{IsFaultOf}
 use Rattle.certificate_text.specs.Reading.{ReadsAs as CertReadsAs}
 use Rattle.certificate_text.specs.declared.fault.CertFault.TheVariants.{At}
@@ -59,12 +60,14 @@ pub record HasBytes (known : KnownFile) (bytes : List ℕ) : Type 0 where
   pub held : HoldsWhole known bytes
   pub within : length bytes ≤ MAX_INPUT
 
--- the first fault of bytes that are read in a role: a row for each kind of text
+-- the first fault of bytes that are read in a role: a row for each kind of text that has faults by itself, while a
+-- refutation has them beside its CNF
 abbrev pub IsFirstFaultIn : Role → List ℕ → ℕ → FaultCause → Type 0
 IsFirstFaultIn (Framework k) bytes line (cause.Framework cause) = IsFirstFault bytes line cause
 IsFirstFaultIn OfScript bytes line (cause.Script cause) = IsFirstScriptFault bytes line cause
 IsFirstFaultIn OfAnswer bytes line (cause.Answer cause) = IsFaultOf bytes line cause
 IsFirstFaultIn OfCertificate bytes line (cause.Certificate cause) = CertReadsAs bytes (Err (At line cause))
+IsFirstFaultIn OfCnf bytes line (cause.Cnf cause) = IsCnfFault bytes line cause
 IsFirstFaultIn _ bytes line cause = ⊥
 
 -- the text has no fault

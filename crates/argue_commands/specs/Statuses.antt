@@ -13,4 +13,4 @@ code_of WriteFault = 4
 code_of WantOfMemory = 5
 code_of Unknown = 6
 code_of (Limit limit) = 7
-code_of (Rejected failure refutation step) = 8
+code_of (Rejected rejection) = 8

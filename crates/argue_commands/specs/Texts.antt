@@ -9,6 +9,7 @@ use Rattle.iccma_tasks.specs.Names.{cause_name as answer_cause}
 use Rattle.certificate_text.specs.Names.{cause_name as certificate_cause}
 use Rattle.script_text.specs.ScriptFaults.{cause_name as script_cause}
 use Rattle.apx_tgf.specs.Faults.{cause_name as name_cause}
+use Rattle.lrat_text.specs.Causes.{cnf_cause_name, lrat_cause_name}
 use Rattle.certificate_claims.specs.declared.verdict.Cause.{Cause as Failure}
 use Rattle.certificate_claims.specs.declared.verdict.Cause.TheVariants.{AnswerShape, BadWitness, SetCount, BadSet}
 use Rattle.certificate_claims.specs.declared.verdict.Cause.TheVariants.{RefutationCount, BadStep, OpenLiteral}
@@ -19,6 +20,8 @@ use Rattle.argue_commands.specs.declared.ended.Limit.{Limit}
 use Rattle.argue_commands.specs.declared.ended.Limit.TheVariants as limit
 use Rattle.argue_commands.specs.declared.ended.Refusal.{Refusal}
 use Rattle.argue_commands.specs.declared.ended.Refusal.TheVariants.{Line, Query, UnknownName}
+use Rattle.argue_commands.specs.declared.ended.Rejection.{Rejection}
+use Rattle.argue_commands.specs.declared.ended.Rejection.TheVariants.{Certificate as OfCertificate, Step as OfStep, NoEmptyClause}
 use Rattle.argue_commands.specs.declared.ended.Status.{Status}
 use Rattle.argue_commands.specs.declared.ended.Status.TheVariants as status
 use Rattle.argue_commands.specs.declared.texts.Text.{Text}
@@ -47,6 +50,8 @@ cause_text (cause.Script cause) = script_cause cause
 cause_text (cause.Answer cause) = answer_cause cause
 cause_text (cause.Certificate cause) = certificate_cause cause
 cause_text (cause.Name cause) = name_cause cause
+cause_text (cause.Cnf cause) = cnf_cause_name cause
+cause_text (cause.Lrat cause) = lrat_cause_name cause
 
 -- the name of a check's failure
 abbrev pub failure_text : Failure → List ℕ
@@ -71,9 +76,15 @@ refusal_text (Query fault) = query_line (fault_name fault) (fault_number fault)
 refusal_text UnknownName = query_line (codes "UnknownName") None
 
 -- the line of a certificate that isn't accepted: why, and where
-abbrev pub rejection_text : Failure → ℕ → ℕ → List ℕ
-rejection_text failure refutation step =
+abbrev pub failure_line : Failure → ℕ → ℕ → List ℕ
+failure_line failure refutation step =
     codes "REJECTED " ++ (failure_text failure ++ (32 ∷ (decimal refutation ++ (32 ∷ (decimal step ++ 10 ∷ [])))))
+
+-- the line of a rejection
+abbrev pub rejection_text : Rejection → List ℕ
+rejection_text (OfCertificate failure refutation step) = failure_line failure refutation step
+rejection_text (OfStep id) = codes "REJECTED STEP " ++ (decimal id ++ 10 ∷ [])
+rejection_text NoEmptyClause = codes "REJECTED NoEmptyClause\n"
 
 -- the line of a bound that was met
 abbrev pub limit_text : Limit → List ℕ
@@ -91,10 +102,10 @@ common_text status.WriteFault = Some []
 common_text status.WantOfMemory = Some []
 common_text status.Unknown = Some (codes "UNKNOWN\n")
 common_text (status.Limit limit) = Some (limit_text limit)
-common_text (status.Rejected failure refutation step) = Some (rejection_text failure refutation step)
+common_text (status.Rejected rejection) = Some (rejection_text rejection)
 
 -- the status is that of a refused input or of a certificate that isn't accepted, whose text takes memory
 abbrev pub IsRefusal : Status → Type 0
 IsRefusal (status.InputRefused refusal) = Unit {0}
-IsRefusal (status.Rejected failure refutation step) = Unit {0}
+IsRefusal (status.Rejected rejection) = Unit {0}
 IsRefusal _ = ⊥

@@ -10,7 +10,7 @@ ghost use Rattle.argue_commands.specs.Checks.{IsTextFault, answer_status, certif
 ghost use Rattle.argue_commands.specs.Inputs.{StopsReading, reading};
 ghost use Rattle.argue_commands.specs.Texts.{common_text};
 
-use crate::ended::{FaultCause, Refusal, Status};
+use crate::ended::{FaultCause, Refusal, Rejection, Status};
 use crate::input::{read_input, refused};
 use argue_outside::{Files, Role};
 use argue_words::CheckWords;
@@ -168,7 +168,7 @@ fn judge(alloc: Global, query: &Query, read: &Checked) -> Result<(), Status>
     ) {
         Ok(Verdict::Accepted) => Ok(()),
         Ok(Verdict::Rejected(failure, refutation, step)) => {
-            Err(Status::Rejected(failure, refutation, step))
+            Err(Status::Rejected(Rejection::Certificate(failure, refutation, step)))
         }
         Err(Memory) => Err(Status::WantOfMemory),
     }

@@ -10,6 +10,7 @@ use certificate_claims::Cause as Failure;
 use certificate_text::CertCause;
 use edit_rules::QueryFault;
 use iccma_tasks::AnswerCause;
+use lrat_text::{CnfCause, LratCause};
 use oracle_core::{AnswerStop, Answered, Engine};
 use script_text::ScriptCause;
 
@@ -26,6 +27,10 @@ pub enum FaultCause {
     Certificate(CertCause),
     /// A line of a framework whose arguments have names.
     Name(NameCause),
+    /// A line of a CNF.
+    Cnf(CnfCause),
+    /// A line of a refutation in the format LRAT.
+    Lrat(LratCause),
 }
 
 /// Why an input is refused.
@@ -37,6 +42,17 @@ pub enum Refusal {
     Query(QueryFault),
     /// No argument has the name that the query asks about.
     UnknownName,
+}
+
+/// Why what was to be checked isn't accepted.
+#[derive(Clone, Copy)]
+pub enum Rejection {
+    /// The certificate isn't accepted for the answer: why, and the numbers of the refutation and of the step or the set.
+    Certificate(Failure, usize, usize),
+    /// The line of a refutation that has this id fails, and no line before it does.
+    Step(u32),
+    /// All lines of a refutation pass, and each has a literal.
+    NoEmptyClause,
 }
 
 /// Which bound was met.
@@ -69,9 +85,8 @@ pub enum Status {
     Unknown,
     /// A bound was met.
     Limit(Limit),
-    /// The certificate isn't accepted for the answer: why, and the numbers of the refutation and of the step or the
-    /// set.
-    Rejected(Failure, usize, usize),
+    /// A certificate or a refutation isn't accepted.
+    Rejected(Rejection),
 }
 
 impl Status {
@@ -88,7 +103,7 @@ impl Status {
             Status::WantOfMemory => 5,
             Status::Unknown => 6,
             Status::Limit(_) => 7,
-            Status::Rejected(_, _, _) => 8,
+            Status::Rejected(_) => 8,
         }
     }
 }

@@ -12,7 +12,7 @@ pub mod replacing;
 pub mod solving;
 pub mod texts;
 
-pub use ended::{FaultCause, KeptSession, Limit, Refusal, Status};
+pub use ended::{FaultCause, KeptSession, Limit, Refusal, Rejection, Status};
 pub use oracle_core::{AnswerStop, Answered, Engine};
 pub use replacing::Written;
 pub use texts::Text;

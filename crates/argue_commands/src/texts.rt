@@ -3,10 +3,10 @@
 ghost use Rattle.std.specs.Prelude.{◌≡◌, ◌++◌, IfOk, IsErr, IsSome, Some, codes};
 ghost use Rattle.std.specs.String.{string_bytes};
 ghost use Rattle.edit_rules.specs.Fitting.{fault_name, fault_number};
-ghost use Rattle.argue_commands.specs.Texts.{IsRefusal, cause_text, common_text, failure_text, limit_text};
+ghost use Rattle.argue_commands.specs.Texts.{IsRefusal, cause_text, common_text, failure_line, failure_text, limit_text};
 ghost use Rattle.argue_commands.specs.Texts.{query_line, refusal_text, rejection_text, role_text, text_bytes};
 
-use crate::ended::{FaultCause, Limit, Refusal, Status};
+use crate::ended::{FaultCause, Limit, Refusal, Rejection, Status};
 use argue_outside::Role;
 use certificate_claims::Cause as Failure;
 use edit_rules::QueryFault;
@@ -59,6 +59,8 @@ fn cause_name(cause: FaultCause) -> &'static str
         FaultCause::Answer(cause) => cause.name(),
         FaultCause::Certificate(cause) => cause.name(),
         FaultCause::Name(cause) => cause.name(),
+        FaultCause::Cnf(cause) => cause.name(),
+        FaultCause::Lrat(cause) => cause.name(),
     }
 }
 
@@ -131,16 +133,29 @@ fn refusal_line(alloc: Global, refusal: Refusal) -> Result<String, Memory>
 }
 
 /// The line that tells that a certificate isn't accepted, its end included.
-fn rejection_line(
+fn failure_line(
     alloc: Global,
     failure: Failure,
     refutation: usize,
     step: usize,
 ) -> Result<String, Memory>
-    ensures { IfOk result (λ text. string_bytes text ≡ rejection_text failure refutation step) }
+    ensures { IfOk result (λ text. string_bytes text ≡ failure_line failure refutation step) }
 {
     let name = failure_name(failure);
     Ok(format!(in alloc; "REJECTED {name} {refutation} {step}\n")?)
+}
+
+/// The line that tells a rejection, its end included.
+fn rejection_line(alloc: Global, rejection: Rejection) -> Result<String, Memory>
+    ensures { IfOk result (λ text. string_bytes text ≡ rejection_text rejection) }
+{
+    match rejection {
+        Rejection::Certificate(failure, refutation, step) => {
+            failure_line(alloc, failure, refutation, step)
+        }
+        Rejection::Step(id) => Ok(format!(in alloc; "REJECTED STEP {id}\n")?),
+        Rejection::NoEmptyClause => Ok(String::from_str(alloc, "REJECTED NoEmptyClause\n")?),
+    }
 }
 
 /// The text of a status that has one of its own. Memory is taken for a refusal and a rejection alone.
@@ -151,9 +166,7 @@ pub fn status_text(alloc: Global, status: Status) -> Result<Text, Memory>
     match status {
         Status::Usage => Ok(Text::Fixed("error: usage\n")),
         Status::InputRefused(refusal) => Ok(Text::Made(refusal_line(alloc, refusal)?)),
-        Status::Rejected(failure, refutation, step) => Ok(Text::Made(rejection_line(
-            alloc, failure, refutation, step,
-        )?)),
+        Status::Rejected(rejection) => Ok(Text::Made(rejection_line(alloc, rejection)?)),
         Status::ReadFault(role) => Ok(Text::Fixed(read_line(role))),
         Status::Unknown => Ok(Text::Fixed("UNKNOWN\n")),
         Status::Limit(limit) => Ok(Text::Fixed(limit_line(limit))),

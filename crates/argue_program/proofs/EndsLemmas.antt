@@ -135,12 +135,12 @@ module _ (found : Reading) (words : List (List ℕ)) (texts : SolveTexts) (query
       not_usage (inl stops) = stops
       not_usage (inr (inl is)) = absurd (cc)
       not_usage (inr (inr solved)) = unread Usage solved faulty
-  refuses_bytes (Rejected failure r s) faulty short ends = not_rejected (ends (λ e. cc))
+  refuses_bytes (Rejected rejection) faulty short ends = not_rejected (ends (λ e. cc))
     where
-      not_rejected : EndsQuery found texts query kept (Rejected failure r s) → ⊥
+      not_rejected : EndsQuery found texts query kept (Rejected rejection) → ⊥
       not_rejected (inl stops) = stops
       not_rejected (inr (inl is)) = absurd (cc)
-      not_rejected (inr (inr solved)) = unread (Rejected failure r s) solved faulty
+      not_rejected (inr (inr solved)) = unread (Rejected rejection) solved faulty
   refuses_bytes (ReadFault r) faulty short ends = not_unread (ends (λ e. cc))
     where
       not_unread : EndsQuery found texts query kept (ReadFault r) → ⊥
@@ -210,12 +210,12 @@ module _ (found : Reading) (words : List (List ℕ)) (texts : SolveTexts) (query
       not_usage (inl stops) = stops
       not_usage (inr (inl is)) = absurd (cc)
       not_usage (inr (inr solved)) = too_long_for Usage solved long
-  refuses_length (Rejected failure r s) long ends = not_rejected (ends (λ e. cc))
+  refuses_length (Rejected rejection) long ends = not_rejected (ends (λ e. cc))
     where
-      not_rejected : EndsQuery found texts query kept (Rejected failure r s) → ⊥
+      not_rejected : EndsQuery found texts query kept (Rejected rejection) → ⊥
       not_rejected (inl stops) = stops
       not_rejected (inr (inl is)) = absurd (cc)
-      not_rejected (inr (inr solved)) = too_long_for (Rejected failure r s) solved long
+      not_rejected (inr (inr solved)) = too_long_for (Rejected rejection) solved long
   refuses_length (ReadFault r) long ends = not_unread (ends (λ e. cc))
     where
       not_unread : EndsQuery found texts query kept (ReadFault r) → ⊥
@@ -275,8 +275,8 @@ refuses_words found kept (InputRefused refusal) ends =
     absurd (ends_unknown found kept (InputRefused refusal) (λ e. cc) (λ e. cc) (ends (λ e. cc)))
 refuses_words found kept (ReadFault r) ends =
     absurd (ends_unknown found kept (ReadFault r) (λ e. cc) (λ e. cc) (ends (λ e. cc)))
-refuses_words found kept (Rejected failure r s) ends =
-    absurd (ends_unknown found kept (Rejected failure r s) (λ e. cc) (λ e. cc) (ends (λ e. cc)))
+refuses_words found kept (Rejected rejection) ends =
+    absurd (ends_unknown found kept (Rejected rejection) (λ e. cc) (λ e. cc) (ends (λ e. cc)))
 refuses_words found kept WriteFault ends = tt
 refuses_words found kept WantOfMemory ends = tt
 refuses_words found kept Unknown ends =
@@ -334,7 +334,7 @@ no_stop found one P sound has Done stops = stops
 no_stop found one P sound has Usage stops = stops
 no_stop found one P sound has WriteFault stops = stops
 no_stop found one P sound has WantOfMemory stops = stops
-no_stop found one P sound has (Rejected failure r s) stops = stops
+no_stop found one P sound has (Rejected rejection) stops = stops
 
 check_end : (f : AnyFramework) (asked : Asked) (answer : Answer) (certificate : Certificate) (end : Status)
     → CheckEnds f asked answer certificate end → IsCheckEnd f asked answer certificate end
@@ -346,7 +346,7 @@ check_end f asked answer certificate WriteFault ends = tt
 check_end f asked answer certificate WantOfMemory ends = tt
 check_end f asked answer certificate Unknown ends = ends
 check_end f asked answer certificate (Limit l) ends = ends
-check_end f asked answer certificate (Rejected failure r s) ends = ends
+check_end f asked answer certificate (Rejected rejection) ends = ends
 
 -- the framework that the file reads as is the one
 framework_same : (found : Reading) (one : Input) (f g : AnyFramework) → HasText found one (λ bytes. ReadsAs bytes f)
@@ -432,7 +432,7 @@ module _ (found : Reading) (words : List (List ℕ)) (texts : SolveTexts) (query
   solved_end kept WantOfMemory ends = tt
   solved_end kept Unknown ends = ends
   solved_end kept (Limit l) ends = ends
-  solved_end kept (Rejected failure r s) ends = ends
+  solved_end kept (Rejected rejection) ends = ends
 
   pub ends_solve : (kept : Transcript) (end : Status) → EndsQuery found texts query kept end
       → IsSolveEnd f query kept end
@@ -532,7 +532,7 @@ module _ (found : Reading) (words : List (List ℕ)) (texts : LiveTexts) (budget
   stops_at_script WriteFault short stops = tt
   stops_at_script WantOfMemory short stops = tt
   stops_at_script Unknown short stops = stops
-  stops_at_script (Rejected failure r s) short stops = stops
+  stops_at_script (Rejected rejection) short stops = stops
 
   -- faulty bytes within the limit are refused by their first fault
   pub refuses_script : (end : Status) → IsFaultyScript bytes → length bytes ≤ MAX_INPUT
@@ -562,7 +562,7 @@ module _ (found : Reading) (words : List (List ℕ)) (texts : LiveTexts) (budget
   stops_at_length WriteFault long stops = tt
   stops_at_length WantOfMemory long stops = tt
   stops_at_length Unknown long stops = stops
-  stops_at_length (Rejected failure r s) long stops = stops
+  stops_at_length (Rejected rejection) long stops = stops
 
   -- bytes over the limit are refused for their length
   pub refuses_long_script : (end : Status) → MAX_INPUT < length bytes → EndsLiving found texts budget kept end

@@ -4,7 +4,7 @@ use Rattle.argue_outside.specs.Outside.{FaultCounted, KnownFile}
 use Rattle.argue_outside.specs.declared.Role.{Role}
 use Rattle.argue_words.specs.Words.{AfTexts, BenchTexts, CheckTexts, IsBenchQuery, IsLiveQuery, IsNamesQuery, IsSolveQuery}
 use Rattle.argue_words.specs.Words.{LiveTexts, NamesTexts, Request, SolveTexts, version, problems, solving, checking}
-use Rattle.argue_words.specs.Words.{living, benching, by_name, numbering, unknown, requested}
+use Rattle.argue_words.specs.Words.{living, benching, by_name, numbering, verifying, unknown, requested}
 use Rattle.argue_words.proofs.RequestLaws.{input_requested, names_requested_by, query_requested, script_requested}
 use Rattle.apx_tgf.specs.declared.format.NameFormat.{NameFormat}
 use Rattle.named_commands.specs.Namings.{AnswersNamedFile, format_named, naming_by, solving_of}
@@ -129,6 +129,7 @@ row_other holds words (by_name texts) kept end name is other =
     names_other holds (naming_by texts) texts kept end name
     (λ e. other (inr (inr (record { texts = texts; asks = names_requested_by words texts is; named = e }))))
 row_other holds words (numbering texts) kept end name is other = af_other holds (format_named texts.kind) texts kept end name
+row_other holds words (verifying texts) kept end name is other = tt
 row_other holds words unknown kept end name is other = tt
 
 -- the files of an ending have other names than one that names no certificate
@@ -168,7 +169,7 @@ write_fault_or (ReadFault r) = inr (λ e. cc)
 write_fault_or WantOfMemory = inr (λ e. cc)
 write_fault_or Unknown = inr (λ e. cc)
 write_fault_or (Limit l) = inr (λ e. cc)
-write_fault_or (Rejected failure r s) = inr (λ e. cc)
+write_fault_or (Rejected rejection) = inr (λ e. cc)
 
 -- what is decided and then written is a run
 pub IsRunOf-written : (words : List (List ℕ)) (seen : Seen) (ended : Ended) (ending : Ending) (count : Role → ℕ)
@@ -314,6 +315,7 @@ kept_at found words (by_name texts) kept end session asked (inr ends) is =
     names_session found words texts (naming_by texts) kept end session (names_requested_by words texts asked) refl ends is
 kept_at found words (numbering texts) kept end session asked (inr ends) is =
     none_kept found words kept session (af_keeps found.holds (format_named texts.kind) texts kept end ends) is
+kept_at found words (verifying texts) kept end session asked (inr ends) is = none_kept found words kept session ends.0 is
 kept_at found words (solving texts) kept end session asked (inr ends) is =
     kept_by found words texts (solving_by texts) kept end session (query_requested words texts asked) refl ends is
 
@@ -395,5 +397,7 @@ script_at found words (by_name texts) kept end transcript asked (inr ends) is =
 script_at found words (numbering texts) kept end transcript asked (inr ends) is =
     absurd (nothing_no_script kept transcript
     (af_keeps found.holds (format_named texts.kind) texts kept end ends) is)
+script_at found words (verifying texts) kept end transcript asked (inr ends) is =
+    absurd (nothing_no_script kept transcript ends.0 is)
 script_at found words unknown kept end transcript asked (inr unasked) is =
     absurd (nothing_no_script kept transcript unasked.0 is)

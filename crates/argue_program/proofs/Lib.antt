@@ -1,7 +1,9 @@
 mod EndsLemmas
 mod LargeLemmas
+mod LratLemmas
 mod NamesLemmas
 mod ScriptLemmas
+mod WhyLemmas
 pub mod KeptLemmas
 pub mod RowsLemmas
 pub mod RunsLemmas

@@ -67,6 +67,8 @@ names_sound format file bytes names f reads line (cause.Framework c) first = fir
 names_sound format file bytes names f reads line (cause.Script c) first = first
 names_sound format file bytes names f reads line (cause.Answer c) first = first
 names_sound format file bytes names f reads line (cause.Certificate c) first = first
+names_sound format file bytes names f reads line (cause.Cnf c) first = first
+names_sound format file bytes names f reads line (cause.Lrat c) first = first
 
 -- what the known bytes of a file read as
 reads_at : (known : KnownFile) (format : NameFormat) (bytes : List ℕ) (names : List (List ℕ)) (f : Af)
@@ -94,7 +96,7 @@ names_end names f naming name kept WriteFault ends = tt
 names_end names f naming name kept WantOfMemory ends = tt
 names_end names f naming name kept Unknown ends = ends
 names_end names f naming name kept (Limit l) ends = ends
-names_end names f naming name kept (Rejected failure refutation step) ends = ends
+names_end names f naming name kept (Rejected rejection) ends = ends
 
 module _ (found : Reading) (words : List (List ℕ)) (texts : NamesTexts) (naming : Naming) (names : List (List ℕ)) (f : Af)
     (contents : NamesContents found words texts naming names f) where
@@ -221,7 +223,7 @@ module _ (found : Reading) (format : NameFormat) (file bytes : List ℕ) (known 
   stops_at_line WriteFault short stops = tt
   stops_at_line WantOfMemory short stops = tt
   stops_at_line Unknown short stops = stops
-  stops_at_line (Rejected failure refutation step) short stops = stops
+  stops_at_line (Rejected rejection) short stops = stops
 
   -- faulty bytes within the limit are refused by their first fault
   pub refuses_named : (end : Status) → IsFaultyNamed format bytes → length bytes ≤ MAX_INPUT
@@ -248,7 +250,7 @@ module _ (found : Reading) (format : NameFormat) (file bytes : List ℕ) (known 
   stops_at_length WriteFault long stops = tt
   stops_at_length WantOfMemory long stops = tt
   stops_at_length Unknown long stops = stops
-  stops_at_length (Rejected failure refutation step) long stops = stops
+  stops_at_length (Rejected rejection) long stops = stops
 
   -- bytes over the limit are refused for their length
   pub refuses_long_names : (end : Status) → MAX_INPUT < length bytes → EndsInFormat found format file end

@@ -7,9 +7,11 @@ use Rattle.argue_outside.specs.Outside.{KnownFile, OtherCountsKept}
 use Rattle.argue_outside.specs.declared.Role.{Role}
 use Rattle.argue_outside.specs.declared.Role.TheVariants as role
 use Rattle.argue_words.specs.Words.{AfTexts, CheckTexts, LiveTexts, NamesTexts, Request, SolveTexts, version, problems}
-use Rattle.argue_words.specs.Words.{solving, checking, living, benching, by_name, numbering, unknown, bench_texts}
+use Rattle.argue_words.specs.Words.{solving, checking, living, benching, by_name, numbering, verifying, unknown}
+use Rattle.argue_words.specs.Words.{bench_texts}
 use Rattle.argue_words.specs.Words.{command_named, live_texts, request_of, requested}
-use Rattle.argue_words.proofs.RequestLaws.{input_requested, no_name_in, none_requested, script_requested}
+use Rattle.argue_words.proofs.RequestLaws.{input_requested, none_requested, script_requested}
+use Rattle.argue_words.proofs.RequestNames.{no_name_in}
 use Rattle.argue_words.specs.declared.words.CommandName.TheVariants as command
 use Rattle.argue_words.specs.declared.words.Command.{Command}
 use Rattle.argue_words.specs.declared.words.Command.TheVariants.{Bench, Live}
@@ -134,6 +136,7 @@ takes_unless holds words (living texts) is some = live_takes holds (budget_of te
 takes_unless holds words (benching texts) is some = bench_takes (large_by texts)
 takes_unless holds words (by_name texts) is some = names_takes holds (naming_by texts) texts
 takes_unless holds words (numbering texts) is some = af_takes holds (format_named texts.kind) texts
+takes_unless holds words (verifying texts) is some = refl
 takes_unless holds words unknown is some = refl
 
 -- where there are words, the command that they ask for takes memory
@@ -483,6 +486,7 @@ no_row_fault found holds (living texts) kept (inr ends) = no_live_fault holds (b
 no_row_fault found holds (benching texts) kept (inr ends) = no_bench_fault (large_by texts) kept ends
 no_row_fault found holds (by_name texts) kept (inr ends) = no_names_fault holds (naming_by texts) texts kept ends
 no_row_fault found holds (numbering texts) kept (inr ends) = no_af_fault holds (format_named texts.kind) texts kept ends
+no_row_fault found holds (verifying texts) kept (inr ends) = ends.1.ends
 no_row_fault found holds unknown kept (inr unasked) = let e : WriteFault ≡ Usage = unasked.1 in cc
 
 -- what is decided is no write fault

@@ -1,31 +1,33 @@
 -- What follows of a run, in the words of its query.
-use Rattle.std.proofs.Common.{◌≡◌, ◌≢◌, ◌∙◌, ◌⊎◌, ◌<◌, ◌≤◌, ℕ, List, [], ◌∷◌, length, refl, sym, ap, subst, inl}
-use Rattle.std.proofs.Common.{inr, ⊎_elim, true, Option, None, Some, Ok, map}
+use Rattle.std.proofs.Common.{◌≡◌, ◌≢◌, ◌∙◌, ◌⊎◌, ◌<◌, ◌≤◌, ℕ, List, [], length, refl, sym, ap, subst, inl, inr}
+use Rattle.std.proofs.Common.{⊎_elim, true, Option, None, Some, Ok, map}
 use Rattle.std.specs.Io.KnownBytes.{Appends}
-use Rattle.argue_outside.specs.Outside.{FaultCounted, KnownFile}
+use Rattle.argue_outside.specs.Outside.{FaultCounted}
 use Rattle.argue_outside.specs.declared.Role.{Role}
-use Rattle.argue_outside.specs.declared.Role.TheVariants.{Framework, Script as OfScript}
+use Rattle.argue_outside.specs.declared.Role.TheVariants.{Framework, Script as OfScript, Cnf as OfCnf}
 use Rattle.argue_words.specs.Words.{AfTexts, AreWords, BenchTexts, CheckTexts, IsAfQuery, IsBenchQuery, IsCheckQuery}
-use Rattle.argue_words.specs.Words.{IsLiveQuery, IsNamesQuery, IsSolveQuery, LiveTexts, NamesTexts, Request, SolveTexts}
-use Rattle.argue_words.specs.Words.{version, problems, solving, checking, living, benching, by_name, numbering, unknown}
-use Rattle.argue_words.specs.Words.{requested, words_are_problems}
-use Rattle.argue_words.proofs.RequestLaws.{names_requested_by, query_requested, requested_af, requested_input}
-use Rattle.argue_words.proofs.RequestLaws.{requested_list, requested_names, requested_none, requested_query}
-use Rattle.argue_words.proofs.RequestLaws.{requested_script, requested_texts, requested_unknown}
+use Rattle.argue_words.specs.Words.{IsLiveQuery, IsLratQuery, IsNamesQuery, IsSolveQuery, LiveTexts, LratTexts}
+use Rattle.argue_words.specs.Words.{NamesTexts, Request, SolveTexts, version, problems, unknown, requested}
+use Rattle.argue_words.specs.Words.{words_are_problems}
+use Rattle.argue_words.proofs.RequestLaws.{requested_af, requested_input, requested_list, requested_lrat}
+use Rattle.argue_words.proofs.RequestLaws.{requested_names, requested_none, requested_query, requested_script}
+use Rattle.argue_words.proofs.RequestLaws.{requested_texts, requested_unknown}
 use Rattle.apx_tgf.specs.declared.format.NameFormat.{NameFormat}
 use Rattle.named_commands.specs.NamedTexts.{named_reply}
 use Rattle.named_commands.specs.Namings.{format_named, naming_by, solving_of}
 use Rattle.named_commands.specs.Numberings.{IsNumberedOf}
 use Rattle.named_commands.specs.declared.naming.Naming.{Naming}
+use Rattle.lrat_text.specs.CnfText.{Formula}
+use Rattle.lrat_commands.specs.Verifying.{IsUnsatisfiableOf}
 use Rattle.semantics.specs.Framework.{Af}
-use Rattle.semantics.specs.Frameworks.{af}
+use Rattle.semantics.specs.Frameworks.{af, Framework as AnyFramework}
 use Rattle.framework_text.specs.FrameworkText.{IsFaulty}
-use Rattle.argue_commands.specs.Inputs.{Input, Reading, StopsAt, StopsAtFirst}
 use Rattle.argue_commands.specs.Replacing.{FileText, certificate_files, file_text, WritesFiles}
-use Rattle.argue_program.specs.Rows.{EndsCommand, EndsLarge, EndsLive, EndsNamed, EndsSolved, HasNoInput, IsTextOf, Row}
-use Rattle.argue_program.specs.Rows.{SaysNamed, WritesText, af_row, bench_row, check_row, certificates_files}
-use Rattle.argue_program.specs.Rows.{files_beside, live_row, names_row, reply_files, reply_text, row_of, script_files}
-use Rattle.argue_program.specs.Rows.{script_kept, script_text, session_files, session_text, solve_row}
+use Rattle.argue_program.specs.Rows.{EndsCommand, EndsLarge, EndsLive, EndsNamed, EndsSolved, HasNoInput, IsTextOf}
+use Rattle.argue_program.specs.Rows.{Row, SaysNamed, WritesText, lrat_row, af_row, bench_row, check_row}
+use Rattle.argue_program.specs.Rows.{certificates_files, files_beside, live_row, names_row, reply_files, reply_text}
+use Rattle.argue_program.specs.Rows.{row_of, script_files, script_kept, script_text, session_files, session_text}
+use Rattle.argue_program.specs.Rows.{solve_row}
 use Rattle.iccma_tasks.specs.Tasks.{Asked}
 use Rattle.argue_program.specs.LargeInputs.{large_by}
 use Rattle.argue_commands.specs.Queries.{asked_by, budget_of, solving_by}
@@ -38,186 +40,40 @@ use Rattle.argue_commands.specs.Solves.{status_of}
 use Rattle.argue_program.specs.declared.large.LargeInput.{LargeInput}
 use Rattle.argue_commands.specs.declared.query.Solving.{Solving}
 use Rattle.bench_runs.specs.oracle_core.specs.declared.reply.Answered.{Answered}
-use Rattle.argue_commands.proofs.SolveLemmas.{done_reply, fills, spends_all}
-use Rattle.argue_commands.specs.Checks.{CheckEnds}
+use Rattle.argue_commands.proofs.SolveLemmas.{done_reply}
 use Rattle.argue_commands.proofs.CheckLemmas.{stops_told}
-use Rattle.semantics.specs.Frameworks.{Framework as AnyFramework}
 use Rattle.iccma_tasks.specs.WrittenText.{text_of as answer_text}
 use Rattle.iccma_tasks.specs.declared.answer.Answer.{Answer}
 use Rattle.certificate_claims.specs.declared.certificate.Certificate.{Certificate}
 use Rattle.argue_program.specs.Promises.{Promises}
 use Rattle.argue_program.specs.Seen.{Seen}
-use Rattle.argue_program.specs.Runs.{AnswersRight, AsksSession, AsksTranscript, ChecksContents, FillsLog}
-use Rattle.argue_program.specs.Runs.{IsCheckEnd, IsDoneOrMemory, IsFaultyScript, IsLiveEnd, IsRunOf, IsSolveEnd}
-use Rattle.argue_program.specs.Runs.{LivesContents, NamesCertificate, QueriesBytes, RefusesBytes, RefusesLength}
-use Rattle.argue_program.specs.Runs.{RefusesWords, ScriptsBytes, SolvesContents, SpendsBudget, WritesAnswer}
-use Rattle.argue_program.specs.Runs.{WritesSummary, WritesTranscript, IsFaultyNamed, IsNamesEnd, NamedBytes}
-use Rattle.argue_program.specs.Runs.{NamesContents, NumbersContents, RefusesNamed, WritesNamed, WritesNumbered}
+use Rattle.argue_program.specs.Runs.{AnswersRight, AsksSession, AsksTranscript, ChecksContents, FillsLog, IsCheckEnd}
+use Rattle.argue_program.specs.Runs.{IsDoneOrMemory, IsFaultyScript, IsLiveEnd, IsRunOf, IsSolveEnd, LivesContents}
+use Rattle.argue_program.specs.Runs.{NamesCertificate, QueriesBytes, RefusesBytes, RefusesLength, RefusesWords}
+use Rattle.argue_program.specs.Runs.{ScriptsBytes, SolvesContents, SpendsBudget, WritesAnswer, CnfBytes, IsFaultyCnf}
+use Rattle.argue_program.specs.Runs.{IsLratEnd, LratContents, WritesSummary, WritesTranscript, IsFaultyNamed}
+use Rattle.argue_program.specs.Runs.{IsNamesEnd, NamedBytes, NamesContents, NumbersContents, RefusesNamed}
+use Rattle.argue_program.specs.Runs.{WritesNamed, WritesNumbered}
 use Rattle.argue_commands.specs.Texts.{common_text, text_bytes}
 use Rattle.argue_program.specs.declared.ended.Ended.{Ended}
 use Rattle.argue_commands.specs.declared.ended.KeptSession.{KeptSession}
-use Rattle.argue_commands.specs.declared.ended.Limit.TheVariants as limit
 use Rattle.argue_commands.specs.declared.ended.Status.{Status}
-use Rattle.argue_commands.specs.declared.ended.Status.TheVariants.{Done, Usage, InputRefused, ReadFault}
-use Rattle.argue_commands.specs.declared.ended.Status.TheVariants.{WriteFault, WantOfMemory, Unknown, Limit}
-use Rattle.argue_commands.specs.declared.ended.Status.TheVariants.{Rejected}
+use Rattle.argue_commands.specs.declared.ended.Status.TheVariants.{Done, Usage, InputRefused, ReadFault, WriteFault}
+use Rattle.argue_commands.specs.declared.ended.Status.TheVariants.{WantOfMemory, Unknown, Limit, Rejected}
 use Rattle.argue_commands.specs.declared.ended.Refusal.TheVariants.{UnknownName}
 use Rattle.argue_program.specs.declared.ended.Transcript.{Transcript}
 use Rattle.num_text.specs.declared.limit.TheConstants.{MAX_INPUT}
-use Rattle.argue_program.proofs.EndsLemmas.{EndsLiving, EndsQuery, at_query, done_no_memory, done_right}
-use Rattle.argue_program.proofs.EndsLemmas.{ends_check, ends_live, ends_large, ends_living, ends_query, ends_solve}
-use Rattle.argue_program.proofs.EndsLemmas.{ends_unknown, large_done, problems_done, refuses_bytes, refuses_length}
+use Rattle.argue_program.proofs.EndsLemmas.{EndsLiving, EndsQuery, at_query, done_no_memory, done_right, ends_check}
+use Rattle.argue_program.proofs.EndsLemmas.{ends_live, ends_large, ends_living, ends_query, ends_solve, ends_unknown}
+use Rattle.argue_program.proofs.EndsLemmas.{large_done, problems_done, refuses_bytes, refuses_length}
 use Rattle.argue_program.proofs.EndsLemmas.{refuses_long_script, refuses_script, refuses_words, version_done}
 use Rattle.argue_commands.proofs.ReplacingLemmas.{HaveOtherNames, written_other, broken_other}
-use Rattle.argue_program.proofs.KeptLemmas.{asks_name, asks_number, ending_other, kept_at, output_fault, script_at, some_is}
-use Rattle.argue_program.proofs.KeptLemmas.{write_fault_or}
+use Rattle.argue_program.proofs.KeptLemmas.{ending_other, kept_at, output_fault, script_at, some_is, write_fault_or}
+use Rattle.argue_program.proofs.LratLemmas.{done_unsatisfiable, ends_lrat, refuses_cnf, refuses_long_cnf}
 use Rattle.argue_program.proofs.NamesLemmas.{EndsAsking, EndsInFormat, af_is_done, asking_in, ends_asking, ends_names}
 use Rattle.argue_program.proofs.NamesLemmas.{ends_numbering, numbering_in, refuses_long_names, refuses_named}
-
--- ---- a run that ends by its session alone
-
--- a status that says why a query that fits has no answer
-abbrev SaysWhy : Status → Type 0
-SaysWhy Unknown = Unit {0}
-SaysWhy (Limit limit.Extensions) = Unit {0}
-SaysWhy (Limit limit.Log) = Unit {0}
-SaysWhy _ = ⊥
-
--- the run keeps the session of the words' query, and ends as its reply says
-record KeepsAsked (words : List (List ℕ)) (holds : List ℕ → KnownFile) (kept : Transcript) (end : Status) : Type 0 where
-  pub session : KeptSession
-  pub keeps : kept.session ≡ Some session
-  pub asks : AsksSession words holds session
-  pub ends : end ≡ status_of session.reply
-
-no_why : (found : Reading) (end : Status) (one : Input) → SaysWhy end → ¬ StopsAt found end one
-no_why found Unknown one why stops = stops
-no_why found (Limit limit.Extensions) one why stops = stops
-no_why found (Limit limit.Log) one why stops = stops
-no_why found (Limit limit.Input) one why stops = why
-no_why found Done one why stops = why
-no_why found Usage one why stops = why
-no_why found (InputRefused refusal) one why stops = why
-no_why found (ReadFault r) one why stops = why
-no_why found WriteFault one why stops = why
-no_why found WantOfMemory one why stops = why
-no_why found (Rejected failure r s) one why stops = why
-
-no_first_why : (found : Reading) (end : Status) (inputs : List Input) → SaysWhy end → ¬ StopsAtFirst found end inputs
-no_first_why found end [] why stops = stops
-no_first_why found end (one ∷ more) why (inl stops) = no_why found end one why stops.0
-no_first_why found end (one ∷ more) why (inr passes) = no_first_why found end more why passes.1
-
-no_check_why : (f : AnyFramework) (asked : Asked) (answer : Answer) (certificate : Certificate) (end : Status) → SaysWhy
-    end
-    → ¬ CheckEnds f asked answer certificate end
-no_check_why f asked answer certificate Unknown why ends = ends
-no_check_why f asked answer certificate (Limit l) why ends = ends
-no_check_why f asked answer certificate Done why ends = why
-no_check_why f asked answer certificate Usage why ends = why
-no_check_why f asked answer certificate (InputRefused refusal) why ends = why
-no_check_why f asked answer certificate (ReadFault r) why ends = why
-no_check_why f asked answer certificate WriteFault why ends = why
-no_check_why f asked answer certificate WantOfMemory why ends = why
-no_check_why f asked answer certificate (Rejected failure r s) why ends = why
-
-not_why : (end other : Status) → SaysWhy end → (SaysWhy other → ⊥) → end ≢ other
-not_why end other why none is = none (subst SaysWhy is why)
-
-check_why : (holds : List ℕ → KnownFile) (asked : Option Asked) (texts : CheckTexts) (kept : Transcript) (end : Status)
-    → SaysWhy end → ¬ (check_row holds asked texts).Ends kept end
-check_why holds None texts kept end why unasked = not_why end Usage why (λ w. w) unasked.1
-check_why holds (Some asked) texts kept end why checks =
-    no_check_why checks.1.framework asked checks.1.answer checks.1.certificate end why checks.1.ends
-
-solve_why : (found : Reading) (words : List (List ℕ)) (texts : SolveTexts) (by : Option Solving) (kept : Transcript)
-    (end : Status) → SaysWhy end → IsSolveQuery words texts → solving_by texts ≡ by
-    → (solve_row found.holds by texts).Ends kept end → KeepsAsked words found.holds kept end
-solve_why found words texts None kept end why asks query_is unasked =
-    absurd (not_why end Usage why (λ w. w) unasked.1)
-solve_why found words texts (Some query) kept end why asks query_is solved = record {
-  session = solved.session;
-  keeps = ap (λ (k : Transcript). k.session) solved.keeps;
-  asks = asks_number words found.holds texts query solved.session asks query_is solved.on;
-  ends = solved.ends;
-}
-
-live_why : (holds : List ℕ → KnownFile) (by : Option ℕ) (texts : LiveTexts) (kept : Transcript) (end : Status)
-    → SaysWhy end → ¬ (live_row holds by texts).Ends kept end
-live_why holds None texts kept end why unasked = not_why end Usage why (λ w. w) unasked.1
-live_why holds (Some budget) texts kept end why lives = not_why end Done why (λ w. w) lives.ends
-
-bench_why : (by : Option LargeInput) (kept : Transcript) (end : Status) → SaysWhy end → ¬ (bench_row by).Ends kept end
-bench_why None kept end why unasked = not_why end Usage why (λ w. w) unasked.1
-bench_why (Some large) kept end why ends = not_why end Done why (λ w. w) ends.ends
-
-names_why : (found : Reading) (words : List (List ℕ)) (texts : NamesTexts) (by : Option Naming) (kept : Transcript)
-    (end : Status) → SaysWhy end → IsNamesQuery words texts → naming_by texts ≡ by
-    → (names_row found.holds by texts).Ends kept end → KeepsAsked words found.holds kept end
-names_why found words texts None kept end why asks naming_is unasked =
-    absurd (not_why end Usage why (λ w. w) unasked.1)
-names_why found words texts (Some naming) kept end why asks naming_is (inr unnamed) =
-    absurd (not_why end (InputRefused UnknownName) why (λ w. w) unnamed.ends)
-names_why found words texts (Some naming) kept end why asks naming_is (inl named) = record {
-  session = named.session;
-  keeps = ap (λ (k : Transcript). k.session) named.keeps;
-  asks = asks_name words found.holds texts naming named.session named.text asks naming_is named.answers;
-  ends = named.ends;
-}
-
-af_why : (holds : List ℕ → KnownFile) (by : Option NameFormat) (texts : AfTexts) (kept : Transcript) (end : Status)
-    → SaysWhy end → ¬ (af_row holds by texts).Ends kept end
-af_why holds None texts kept end why unasked = not_why end Usage why (λ w. w) unasked.1
-af_why holds (Some format) texts kept end why numbered = not_why end Done why (λ w. w) numbered.ends
-
-keeps_asked : (found : Reading) (words : List (List ℕ)) (request : Request) (kept : Transcript) (end : Status)
-    → SaysWhy end → requested words ≡ request → EndsCommand found (row_of found.holds request) kept end
-    → KeepsAsked words found.holds kept end
-keeps_asked found words request kept end why asked (inl (nothing, inl stops)) =
-    absurd (no_first_why found end (row_of found.holds request).inputs why stops)
-keeps_asked found words request kept end why asked (inl (nothing, inr memory)) =
-    absurd (not_why end WantOfMemory why (λ w. w) memory.0)
-keeps_asked found words version kept end why asked (inr done) = absurd (not_why end Done why (λ w. w) done.1)
-keeps_asked found words problems kept end why asked (inr done) = absurd (not_why end Done why (λ w. w) done.1)
-keeps_asked found words (checking texts) kept end why asked (inr checks) =
-    absurd (check_why found.holds (asked_by texts.task texts.number) texts kept end why checks)
-keeps_asked found words unknown kept end why asked (inr unasked) = absurd (not_why end Usage why (λ w. w) unasked.1)
-keeps_asked found words (living texts) kept end why asked (inr ends) =
-    absurd (live_why found.holds (budget_of texts.budget) texts kept end why ends)
-keeps_asked found words (benching texts) kept end why asked (inr ends) =
-    absurd (bench_why (large_by texts) kept end why ends)
-keeps_asked found words (by_name texts) kept end why asked (inr ends) =
-    names_why found words texts (naming_by texts) kept end why (names_requested_by words texts asked) refl ends
-keeps_asked found words (numbering texts) kept end why asked (inr ends) =
-    absurd (af_why found.holds (format_named texts.kind) texts kept end why ends)
-keeps_asked found words (solving texts) kept end why asked (inr ends) =
-    solve_why found words texts (solving_by texts) kept end why (query_requested words texts asked) refl ends
-
-spends_budget : (words : List (List ℕ)) (holds : List ℕ → KnownFile) (kept : Transcript)
-    → KeepsAsked words holds kept Unknown → SpendsBudget words holds kept
-spends_budget words holds kept asked =
-    let asks = asked.asks in
-    let all = spends_all asks.framework asks.query asked.session asks.is asked.ends in
-    record {
-      session = asked.session;
-      keeps = asked.keeps;
-      asks = asked.asks;
-      units = all.units;
-      fresh = all.fresh;
-      in_hand = all.in_hand;
-      pending = all.pending;
-      further = all.further;
-      in_hand_serves = all.in_hand_serves;
-    }
-
-fills_log : (words : List (List ℕ)) (holds : List ℕ → KnownFile) (kept : Transcript)
-    → KeepsAsked words holds kept (Limit limit.Log) → FillsLog words holds kept
-fills_log words holds kept asked = record {
-  session = asked.session;
-  keeps = asked.keeps;
-  asks = asked.asks;
-  full = fills asked.asks.framework asked.asks.query asked.session asked.asks.is asked.ends;
-}
+use Rattle.argue_commands.specs.declared.ended.Limit.TheVariants as limit
+use Rattle.argue_program.proofs.WhyLemmas.{SaysWhy, KeepsAsked, not_why, keeps_asked, spends_budget, fills_log}
 
 -- ---- a query that is answered
 
@@ -257,7 +113,7 @@ no_files files WriteFault other = refl
 no_files files WantOfMemory other = refl
 no_files files Unknown other = refl
 no_files files (Limit l) other = refl
-no_files files (Rejected failure r s) other = refl
+no_files files (Rejected rejection) other = refl
 
 module _ (words : List (List ℕ)) (seen : Seen) (ended : Ended) (run : IsRunOf words seen ended) where
   ends : ended.status ≢ WriteFault
@@ -854,6 +710,43 @@ module _ (words : List (List ℕ)) (seen : Seen) (ended : Ended) (run : IsRunOf 
       (λ h. ⊎_elim (λ served. h.unserved served) (λ uncounted. uncounted h.counted) asks.no_fault) ended.status long
       (in_format format file bytes asks whole)) (write_fault_or ended.status)
 
+  -- ---- refutations
+
+  at_lrat : (texts : LratTexts) → IsLratQuery words texts → ended.status ≢ WriteFault
+      → EndsCommand seen.files (lrat_row seen.files.holds texts) ended.kept ended.status
+  at_lrat texts asks whole =
+      let P : Request → Type 0 = λ r. EndsCommand seen.files (row_of seen.files.holds r) ended.kept ended.status in
+      subst P (requested_lrat words texts asks) (ends whole)
+
+  -- where a check of a refutation is done, the CNF has no model
+  unsatisfiable : (texts : LratTexts) → IsLratQuery words texts → ended.status ≡ Done
+      → IsUnsatisfiableOf (seen.files.holds texts.cnf)
+  unsatisfiable texts asks done =
+      let P : Status → Type 0 = EndsCommand seen.files (lrat_row seen.files.holds texts) ended.kept in
+      done_unsatisfiable seen.files texts ended.kept
+      (subst P done (at_lrat texts asks (λ e. let x : Done ≡ WriteFault = sym done ∙ e in cc)))
+
+  complete_refutation : (texts : LratTexts) (f : Formula) (bytes : List ℕ)
+      → LratContents seen.files words texts f bytes → IsLratEnd f bytes ended.status
+  complete_refutation texts f bytes contents = ⊎_elim
+      (λ broken. let P : Status → Type 0 = IsLratEnd f bytes in subst P (sym broken) tt)
+      (λ whole. ends_lrat seen.files words texts f bytes contents ended.kept ended.status
+      (at_lrat texts contents.asks whole)) (write_fault_or ended.status)
+
+  faulty_formula : (texts : LratTexts) (bytes other : List ℕ) → CnfBytes seen.files words texts bytes other
+      → IsFaultyCnf bytes → length bytes ≤ MAX_INPUT → RefusesBytes OfCnf bytes ended.status
+  faulty_formula texts bytes other asks bad short = ⊎_elim
+      (λ broken. let P : Status → Type 0 = RefusesBytes OfCnf bytes in subst P (sym broken) tt)
+      (λ whole. refuses_cnf seen.files words texts bytes other asks ended.kept ended.status bad short
+      (at_lrat texts asks.asks whole)) (write_fault_or ended.status)
+
+  long_formula : (texts : LratTexts) (bytes other : List ℕ) → CnfBytes seen.files words texts bytes other
+      → MAX_INPUT < length bytes → RefusesLength ended.status
+  long_formula texts bytes other asks long = ⊎_elim
+      (λ broken. subst RefusesLength (sym broken) tt)
+      (λ whole. refuses_long_cnf seen.files words texts bytes other asks ended.kept ended.status long
+      (at_lrat texts asks.asks whole)) (write_fault_or ended.status)
+
   -- ---- all of it
 
   pub promises : Promises words seen ended
@@ -889,6 +782,10 @@ module _ (words : List (List ℕ)) (seen : Seen) (ended : Ended) (run : IsRunOf 
     no_format = no_numbered;
     faulty_names = faulty_named;
     long_names = long_named;
+    verified = unsatisfiable;
+    complete_lrat = complete_refutation;
+    faulty_cnf = faulty_formula;
+    long_cnf = long_formula;
     write_fault = write_fault;
     output_fault = output_fails;
     other_files = other_files;

@@ -7,9 +7,12 @@ use Rattle.semantics.specs.Framework.{Af}
 use Rattle.semantics.specs.Frameworks.{Framework}
 use Rattle.num_text.specs.declared.limit.TheConstants.{MAX_INPUT}
 use Rattle.argue_words.specs.Words.{AfTexts, AreWords, BenchTexts, CheckTexts, IsAfQuery, IsBenchQuery, IsCheckQuery}
-use Rattle.argue_words.specs.Words.{IsLiveQuery, IsNamesQuery, IsSolveQuery, LiveTexts, NamesTexts, SolveTexts}
+use Rattle.argue_words.specs.Words.{IsLiveQuery, IsLratQuery, IsNamesQuery, IsSolveQuery, LiveTexts, LratTexts}
+use Rattle.argue_words.specs.Words.{NamesTexts, SolveTexts}
 use Rattle.argue_words.specs.Words.{requested, words_are_problems}
 use Rattle.apx_tgf.specs.declared.format.NameFormat.{NameFormat}
+use Rattle.lrat_text.specs.CnfText.{Formula}
+use Rattle.lrat_commands.specs.Verifying.{IsUnsatisfiableOf}
 use Rattle.named_commands.specs.Namings.{format_named, naming_by}
 use Rattle.named_commands.specs.declared.naming.Naming.{Naming}
 use Rattle.iccma_tasks.specs.Tasks.{Asked}
@@ -28,6 +31,7 @@ use Rattle.argue_program.specs.Rows.{HasNoInput, row_of}
 use Rattle.argue_program.specs.Runs.{AnswersRight, AsksSession, AsksTranscript, ChecksContents, FillsLog}
 use Rattle.argue_program.specs.Runs.{IsFaultyNamed, IsNamesEnd, NamedBytes, NamesContents, NumbersContents}
 use Rattle.argue_program.specs.Runs.{RefusesNamed, WritesNamed, WritesNumbered}
+use Rattle.argue_program.specs.Runs.{CnfBytes, IsFaultyCnf, IsLratEnd, LratContents}
 use Rattle.argue_program.specs.Runs.{IsCheckEnd, IsDoneOrMemory, IsFaultyScript, IsLiveEnd, IsSolveEnd}
 use Rattle.argue_program.specs.Runs.{LivesContents, NamesCertificate, QueriesBytes, RefusesBytes, RefusesLength}
 use Rattle.argue_program.specs.Runs.{RefusesWords, ScriptsBytes, SolvesContents, SpendsBudget, WritesAnswer}
@@ -135,6 +139,19 @@ pub record Promises (words : List (List ℕ)) (seen : Seen) (ended : Ended) : Ty
       → IsFaultyNamed format bytes → length bytes ≤ MAX_INPUT → RefusesNamed format bytes ended.status
   -- one over the limit is refused for its length
   pub long_names : (format : NameFormat) (file bytes : List ℕ) → NamedBytes seen.files words format file bytes
+      → MAX_INPUT < length bytes → RefusesLength ended.status
+  -- ---- refutations
+  -- a check of a refutation is done only where no valuation makes every clause of the CNF true
+  pub verified : (texts : LratTexts) → IsLratQuery words texts → ended.status ≡ Done
+      → IsUnsatisfiableOf (seen.files.holds texts.cnf)
+  -- one of files that hold a CNF and some bytes ends as these say, or wants memory
+  pub complete_lrat : (texts : LratTexts) (f : Formula) (bytes : List ℕ)
+      → LratContents seen.files words texts f bytes → IsLratEnd f bytes ended.status
+  -- a CNF with a fault is refused by its first
+  pub faulty_cnf : (texts : LratTexts) (bytes other : List ℕ) → CnfBytes seen.files words texts bytes other
+      → IsFaultyCnf bytes → length bytes ≤ MAX_INPUT → RefusesBytes role.Cnf bytes ended.status
+  -- one over the limit is refused for its length
+  pub long_cnf : (texts : LratTexts) (bytes other : List ℕ) → CnfBytes seen.files words texts bytes other
       → MAX_INPUT < length bytes → RefusesLength ended.status
   -- ---- faults and files
   -- a write fault was counted

@@ -7,8 +7,9 @@ use Rattle.bench_runs.specs.oracle_core.specs.declared.reply.AnswerStop.{AnswerS
 use Rattle.bench_runs.specs.oracle_core.specs.declared.reply.Answered.{Answered}
 use Rattle.argue_outside.specs.declared.Role.{Role}
 use Rattle.argue_outside.specs.declared.Role.TheVariants.{Framework}
-use Rattle.argue_words.specs.Words.{AfTexts, CheckTexts, LiveTexts, NamesTexts, Request, SolveTexts, version, problems}
-use Rattle.argue_words.specs.Words.{solving, checking, living, benching, by_name, numbering, unknown}
+use Rattle.argue_words.specs.Words.{AfTexts, CheckTexts, LiveTexts, LratTexts, NamesTexts, Request, SolveTexts}
+use Rattle.argue_words.specs.Words.{version, problems, solving, checking, living, benching, by_name, numbering}
+use Rattle.argue_words.specs.Words.{verifying, unknown}
 use Rattle.iccma_tasks.specs.Tasks.{Asked, tasks_line}
 use Rattle.argue_commands.specs.Checks.{ChecksFiles, check_inputs}
 use Rattle.argue_program.specs.LargeInputs.{large_by}
@@ -21,6 +22,7 @@ use Rattle.argue_commands.specs.declared.query.Solving.{Solving}
 use Rattle.apx_tgf.specs.declared.format.NameFormat.{NameFormat}
 use Rattle.argue_commands.specs.Inputs.{Input, Reading, StopsAtFirst, input, named_input}
 use Rattle.argue_commands.specs.declared.ended.Refusal.TheVariants.{UnknownName}
+use Rattle.lrat_commands.specs.Verifying.{VerifiesFiles, lrat_inputs}
 use Rattle.named_commands.specs.Namings.{AnswersNamedFile, AsksUnknownOf, format_named, naming_by}
 use Rattle.named_commands.specs.Numberings.{IsNumberedOf}
 use Rattle.named_commands.specs.declared.naming.Naming.{Naming}
@@ -257,6 +259,20 @@ af_row holds (Some format) texts = record {
   files = λ kept end. [];
 }
 
+-- it keeps nothing, and ends as the check of the CNF with the refutation does
+abbrev pub EndsVerified : (List ℕ → KnownFile) → LratTexts → Transcript → Status → Type 0
+EndsVerified holds texts kept end = (kept ≡ nothing_kept) × VerifiesFiles holds texts end
+
+-- the check of a CNF with its refutation
+abbrev pub lrat_row : (List ℕ → KnownFile) → LratTexts → Row
+lrat_row holds texts = record {
+  inputs = lrat_inputs texts;
+  takes_memory = true;
+  Ends = EndsVerified holds texts;
+  Says = λ kept end text. text ≡ codes "VERIFIED\n";
+  files = λ kept end. [];
+}
+
 -- the table: what is known of the files matters to some rows
 abbrev pub row_of : (List ℕ → KnownFile) → Request → Row
 row_of holds version = version_row
@@ -267,6 +283,7 @@ row_of holds (living texts) = live_row holds (budget_of texts.budget) texts
 row_of holds (benching texts) = bench_row (large_by texts)
 row_of holds (by_name texts) = names_row holds (naming_by texts) texts
 row_of holds (numbering texts) = af_row holds (format_named texts.kind) texts
+row_of holds (verifying texts) = lrat_row holds texts
 row_of holds unknown = unknown_row
 
 -- ---- the cause of an ending

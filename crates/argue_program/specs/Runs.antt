@@ -8,12 +8,16 @@ use Rattle.semantics.specs.Framework.{Af}
 use Rattle.semantics.specs.Frameworks.{Framework, af}
 use Rattle.num_text.specs.declared.limit.TheConstants.{MAX_INPUT}
 use Rattle.argue_words.specs.Words.{AfTexts, BenchTexts, CheckTexts, IsAfQuery, IsBenchQuery, IsCheckQuery, IsLiveQuery}
-use Rattle.argue_words.specs.Words.{IsNamesQuery, IsSolveQuery, LiveTexts, NamesTexts, SolveTexts, requested}
+use Rattle.argue_words.specs.Words.{IsLratQuery, IsNamesQuery, IsSolveQuery, LiveTexts, LratTexts, NamesTexts, SolveTexts}
+use Rattle.argue_words.specs.Words.{requested}
 use Rattle.apx_tgf.specs.Faults.{IsFirstFault as IsFirstNameFault}
 use Rattle.apx_tgf.specs.Names.{AreDistinct}
 use Rattle.apx_tgf.specs.NamedText.{ReadsAs as NamedReadsAs}
 use Rattle.apx_tgf.specs.declared.fault.NameCause.{NameCause}
 use Rattle.apx_tgf.specs.declared.format.NameFormat.{NameFormat}
+use Rattle.lrat_text.specs.CnfText.{Formula, IsCnfFault, IsCnfText}
+use Rattle.lrat_text.specs.declared.fault.CnfCause.{CnfCause}
+use Rattle.lrat_commands.specs.Verifying.{LratEnds}
 use Rattle.named_commands.specs.NamedTexts.{named_answer}
 use Rattle.named_commands.specs.Namings.{IsAskedBy, IsNamedOf, IsUnknown, format_named, naming_by, solving_of}
 use Rattle.named_commands.specs.Numberings.{IsNumberedOf}
@@ -451,3 +455,30 @@ RefusesNamed format bytes (InputRefused (Line of line cause)) =
 RefusesNamed format bytes WriteFault = Unit {0}
 RefusesNamed format bytes WantOfMemory = Unit {0}
 RefusesNamed format bytes _ = ⊥
+
+-- ---- refutations
+
+-- the words ask for a check of a refutation, and the files hold the text of this CNF and these bytes
+pub record LratContents (found : Reading) (words : List (List ℕ)) (texts : LratTexts) (f : Formula) (bytes : List ℕ)
+    : Type 0 where
+  pub asks : IsLratQuery words texts
+  pub of_cnf : HasText found (input role.Cnf texts.cnf) (λ text. IsCnfText text f)
+  pub of_lrat : HasText found (input role.Lrat texts.lrat) (λ text. text ≡ bytes)
+
+-- a check ends as its CNF and the bytes of its refutation say, but for want of memory or a write fault
+abbrev pub IsLratEnd : Formula → List ℕ → Status → Type 0
+IsLratEnd f bytes WantOfMemory = Unit {0}
+IsLratEnd f bytes WriteFault = Unit {0}
+IsLratEnd f bytes end = LratEnds f bytes end
+
+-- the words ask for a check of a refutation of the CNF with these bytes, both files can be read, and the refutation has
+-- no more bytes than the limit
+pub record CnfBytes (found : Reading) (words : List (List ℕ)) (texts : LratTexts) (bytes other : List ℕ) : Type 0 where
+  pub asks : IsLratQuery words texts
+  pub known : found.holds texts.cnf ≡ Some (Some bytes)
+  pub no_fault : found.Serves texts.cnf ⊎ ¬ FaultCounted (found.old_count role.Cnf) (found.new_count role.Cnf)
+  pub of_lrat : HasText found (input role.Lrat texts.lrat) (λ text. text ≡ other)
+
+-- the bytes have a first fault
+abbrev pub IsFaultyCnf : List ℕ → Type 0
+IsFaultyCnf bytes = (line : ℕ) × (cause : CnfCause) × IsCnfFault bytes line cause

@@ -15,6 +15,7 @@ use crate::naming::names;
 use crate::numbering::af;
 use crate::scripts::live;
 use crate::solving::solve;
+use crate::verifying::lrat;
 use argue_commands::{Status, Text};
 use argue_outside::{Files, Pace};
 use argue_words::{Command, CommandName, read_words};
@@ -44,6 +45,7 @@ fn decide_command<F: Files>(alloc: Global, command: Command, files: &mut F) -> E
         Command::Check(words) => check(alloc, files, words),
         Command::Names(words) => names(alloc, files, words),
         Command::Af(words) => af(alloc, files, words),
+        Command::Lrat(words) => lrat(alloc, files, words),
         Command::Live(_) | Command::Bench(_) => unreachable!(),
         Command::Unknown => status_ending(alloc, Status::Usage),
     }

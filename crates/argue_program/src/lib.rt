@@ -16,9 +16,12 @@ mod numbering;
 pub mod process;
 mod scripts;
 mod solving;
+mod verifying;
 pub mod writing;
 
-pub use argue_commands::{FaultCause, KeptSession, Limit, Refusal, Status, Text, Written};
+pub use argue_commands::{
+    FaultCause, KeptSession, Limit, Refusal, Rejection, Status, Text, Written,
+};
 pub use command::{execute, run};
 pub use decision::{decide, decide_with};
 pub use ended::{Ended, Transcript};

@@ -9,7 +9,7 @@ use Rattle.clap.specs.declared.error.Error.{Error}
 use Rattle.clap.specs.declared.parser.matches.ArgMatches.{ArgMatches}
 use Rattle.clap.proofs.WalkLemmas.{first_value-rows}
 use Rattle.argue_words.specs.Words.{af_app, af_value, bench_app, bench_value, check_app, check_value, live_app, live_value}
-use Rattle.argue_words.specs.Words.{named_app, names_app, names_value, option_of, script_app, solve_app, solve_value}
+use Rattle.argue_words.specs.Words.{lrat_app, lrat_value, named_app, names_app, names_value, option_of, script_app, solve_app, solve_value}
 use Rattle.argue_words.specs.Words.{task_app, value_option}
 use Rattle.argue_words.proofs.NoFault.{takes_if}
 use Rattle.argue_words.proofs.ValuesGiven.{solve_rules, values_given}
@@ -173,6 +173,25 @@ pub af_values_at : (app : App) (words : List Text) (r : Result ArgMatches Error)
     → IfOk r (HasMatchesOf app words)
     → IfOk r (λ m. (id : Text) → first_value (found_of m) id ≡ af_value words id)
 af_values_at app words r is = values_of af_app af_is_plain_app app is words r
+
+-- ---- the words of a check of a refutation
+
+lrat_is_plain_app : IsPlain lrat_app
+unfolding lrat_app
+lrat_is_plain_app = record {
+  simple = refl;
+  free = refl;
+  whole = λ words e. takes_if lrat_app words refl refl refl refl e;
+}
+
+pub lrat_taken_at : {T : Type 0} (app : App) (words : List Text) (r : Result T Error) → app ≡ lrat_app
+    → (is_simple_and_free app ≡ true → FailsBy (fault_of app words) r) → IfOk r (λ _. takes lrat_app words ≡ true)
+lrat_taken_at app words r is = taken_of lrat_app lrat_is_plain_app app is words r
+
+pub lrat_values_at : (app : App) (words : List Text) (r : Result ArgMatches Error) → app ≡ lrat_app
+    → IfOk r (HasMatchesOf app words)
+    → IfOk r (λ m. (id : Text) → first_value (found_of m) id ≡ lrat_value words id)
+lrat_values_at app words r is = values_of lrat_app lrat_is_plain_app app is words r
 
 -- ---- how the commands are made
 

@@ -10,10 +10,11 @@ use Rattle.clap.proofs.TakesLemmas.{leaf_takes}
 use Rattle.clap.proofs.OnLiterals.{clap_on_literals}
 use Rattle.argue_words.specs.declared.words.CommandName.{CommandName}
 use Rattle.argue_words.specs.declared.words.CommandName.TheVariants as command
-use Rattle.argue_words.specs.Words.{AreUnknown, IsAfQuery, IsBenchQuery, IsCheckQuery, IsLiveQuery, IsNamesQuery}
+use Rattle.argue_words.specs.Words.{AreUnknown, IsAfQuery, IsBenchQuery, IsCheckQuery, IsLiveQuery, IsLratQuery}
+use Rattle.argue_words.specs.Words.{IsNamesQuery, lrat_app}
 use Rattle.argue_words.specs.Words.{IsSolveQuery, SolveTexts, af_app, bench_app, check_app, command_named, live_app}
 use Rattle.argue_words.specs.Words.{named_app, names_app, script_app, solve_app, task_app, words_are_problems}
-use Rattle.argue_words.proofs.RequestLaws.{no_name_in}
+use Rattle.argue_words.proofs.RequestNames.{no_name_in}
 use Rattle.argue_words.proofs.ValueWords.{no_flag, value_turn, value_walked}
 use Rattle.lists.proofs.TruthValues.{both_from}
 
@@ -175,6 +176,7 @@ no_script = record {
   no_bench = λ texts query. no_name_in _ query.rest command.Bench (λ e. cc) query.words_are;
   no_names = λ texts query. no_name_in _ query.rest command.Names (λ e. cc) query.words_are;
   no_af = λ texts query. no_name_in _ query.rest command.Af (λ e. cc) query.words_are;
+  no_lrat = λ texts query. no_name_in _ query.rest command.Lrat (λ e. cc) query.words_are;
   others = λ none. cc;
 }
 
@@ -205,6 +207,13 @@ pub af_with_both : IsAfQuery (codes "af" ∷ af_words) (record { kind = codes "t
 unfolding clap_on_literals af_app
 af_with_both = record { rest = af_words; words_are = refl; has = record { taken = refl; kind = refl; file = refl } }
 
+abbrev lrat_words : List Text
+lrat_words = codes "-l" ∷ codes "a.lrat" ∷ codes "-d" ∷ codes "a.cnf" ∷ []
+
+pub lrat_with_both : IsLratQuery (codes "lrat" ∷ lrat_words) (record { cnf = codes "a.cnf"; lrat = codes "a.lrat" })
+unfolding clap_on_literals lrat_app
+lrat_with_both = record { rest = lrat_words; words_are = refl; has = record { taken = refl; cnf = refl; lrat = refl } }
+
 abbrev bench_words : List Text
 bench_words = codes "-x" ∷ codes "7" ∷ codes "-n" ∷ codes "40" ∷ []
 
@@ -225,6 +234,7 @@ refused words some none listed e = record {
   no_bench = λ texts query. no_name_in words query.rest command.Bench (λ is. unnamed words _ none is) query.words_are;
   no_names = λ texts query. no_name_in words query.rest command.Names (λ is. unnamed words _ none is) query.words_are;
   no_af = λ texts query. no_name_in words query.rest command.Af (λ is. unnamed words _ none is) query.words_are;
+  no_lrat = λ texts query. no_name_in words query.rest command.Lrat (λ is. unnamed words _ none is) query.words_are;
   others = λ _. record {
     no_list = λ is. true≢false (sym is ∙ listed);
     refused = λ taken. true≢false (sym taken ∙ e);

@@ -6,13 +6,15 @@ use Rattle.clap.specs.Words.{App, Rule, Text, first_of, matches_of, new_app, new
 use Rattle.clap.specs.Words.{with_rule}
 use Rattle.clap.specs.declared.builder.ArgAction.TheVariants.{Set}
 use Rattle.argue_words.specs.declared.words.Command.{Command}
-use Rattle.argue_words.specs.declared.words.Command.TheVariants.{Version, Problems, Solve, Check, Live, Bench, Names, Af, Unknown}
+use Rattle.argue_words.specs.declared.words.Command.TheVariants.{Version, Problems, Solve, Check, Live, Bench, Names, Af, Lrat}
+use Rattle.argue_words.specs.declared.words.Command.TheVariants.{Unknown}
 use Rattle.argue_words.specs.declared.words.CommandName.{CommandName}
 use Rattle.argue_words.specs.declared.words.CommandName.TheVariants as command
 use Rattle.argue_words.specs.declared.words.AfWords.{AfWords}
 use Rattle.argue_words.specs.declared.words.BenchWords.{BenchWords}
 use Rattle.argue_words.specs.declared.words.CheckWords.{CheckWords}
 use Rattle.argue_words.specs.declared.words.LiveWords.{LiveWords}
+use Rattle.argue_words.specs.declared.words.LratWords.{LratWords}
 use Rattle.argue_words.specs.declared.words.NamesWords.{NamesWords}
 use Rattle.argue_words.specs.declared.words.SolveWords.{SolveWords}
 
@@ -74,6 +76,10 @@ names_app = with_rule (with_rule (with_rule named_app (option_of (codes "name") 
 unfoldable pub af_app : App
 af_app = with_rule (with_rule bare_app (value_option (codes "file") 102)) (value_option (codes "kind") 107)
 
+-- the command of `-d CNF` and `-l LRAT`
+unfoldable pub lrat_app : App
+lrat_app = with_rule (with_rule bare_app (value_option (codes "cnf") 100)) (value_option (codes "lrat") 108)
+
 -- ---- the names of commands
 
 -- the word that names a command
@@ -83,6 +89,7 @@ name_text command.Live = codes "live"
 name_text command.Bench = codes "bench"
 name_text command.Names = codes "names"
 name_text command.Af = codes "af"
+name_text command.Lrat = codes "lrat"
 
 -- the command that a word names, if it names one
 abbrev pub named : Text → Option CommandName
@@ -91,7 +98,8 @@ named word =
     else (if bytes_eq word (codes "live") then Some command.Live
     else (if bytes_eq word (codes "bench") then Some command.Bench
     else (if bytes_eq word (codes "names") then Some command.Names
-    else (if bytes_eq word (codes "af") then Some command.Af else None))))
+    else (if bytes_eq word (codes "af") then Some command.Af
+    else (if bytes_eq word (codes "lrat") then Some command.Lrat else None)))))
 
 -- the command that the first word names
 abbrev pub command_named : List Text → Option CommandName
@@ -268,10 +276,34 @@ pub record IsAfQuery (words : List Text) (texts : AfTexts) : Type 0 where
   pub words_are : words ≡ codes "af" ∷ rest
   pub has : HasAfTexts rest texts
 
+-- ---- checks of refutations
+
+-- the texts for a check of a refutation: the names of the files of a CNF and of its refutation
+pub record LratTexts : Type 0 where
+  pub cnf : Text
+  pub lrat : Text
+
+-- the value of an option of `lrat`
+abbrev pub lrat_value : List Text → Text → Option Text
+lrat_value words id = first_of id (matches_of lrat_app words)
+
+-- the words behind the command's name, which clap takes, have these texts
+pub record HasLratTexts (words : List Text) (texts : LratTexts) : Type 0 where
+  pub taken : takes lrat_app words ≡ true
+  pub cnf : lrat_value words (codes "cnf") ≡ Some texts.cnf
+  pub lrat : lrat_value words (codes "lrat") ≡ Some texts.lrat
+
+-- the words ask for a check of a refutation, with these texts
+pub record IsLratQuery (words : List Text) (texts : LratTexts) : Type 0 where
+  pub rest : List Text
+  pub words_are : words ≡ codes "lrat" ∷ rest
+  pub has : HasLratTexts rest texts
+
 -- ---- all words
 
 -- the words are well-formed, whatever the task and the numbers: there is none, or they ask for the list of tasks, a
--- query, a check, a script's run, that of a large input, a query by names or a text with numbers
+-- query, a check, a script's run, that of a large input, a query by names, a text with numbers or a check of a
+-- refutation
 pub data AreWords (words : List Text) : Type 0 where
   for_none : words ≡ [] → AreWords words
   for_list : words_are_problems words ≡ true → AreWords words
@@ -281,6 +313,7 @@ pub data AreWords (words : List Text) : Type 0 where
   for_bench : (texts : BenchTexts) → IsBenchQuery words texts → AreWords words
   for_names : (texts : NamesTexts) → IsNamesQuery words texts → AreWords words
   for_af : (texts : AfTexts) → IsAfQuery words texts → AreWords words
+  for_lrat : (texts : LratTexts) → IsLratQuery words texts → AreWords words
 
 -- the words aren't `--problems` alone, and clap refuses them for a query
 pub record RefusesOthers (words : List Text) : Type 0 where
@@ -296,6 +329,7 @@ pub record AreUnknown (words : List Text) : Type 0 where
   pub no_bench : (texts : BenchTexts) → ¬ IsBenchQuery words texts
   pub no_names : (texts : NamesTexts) → ¬ IsNamesQuery words texts
   pub no_af : (texts : AfTexts) → ¬ IsAfQuery words texts
+  pub no_lrat : (texts : LratTexts) → ¬ IsLratQuery words texts
   pub others : command_named words ≡ None → RefusesOthers words
 
 -- what words ask for: a row for each command
@@ -308,6 +342,7 @@ pub data Request : Type 0 where
   benching : BenchTexts → Request
   by_name : NamesTexts → Request
   numbering : AfTexts → Request
+  verifying : LratTexts → Request
   unknown : Request
 
 -- what the values of a query's options ask for
@@ -344,6 +379,11 @@ abbrev pub af_request : Option Text → Option Text → Request
 af_request (Some kind) (Some file) = numbering (record { kind = kind; file = file })
 af_request _ _ = unknown
 
+-- what the values of the options of a check of a refutation ask for
+abbrev pub lrat_request : Option Text → Option Text → Request
+lrat_request (Some cnf) (Some lrat) = verifying (record { cnf = cnf; lrat = lrat })
+lrat_request _ _ = unknown
+
 -- what the words behind `check` ask for
 unfoldable pub check_requested : List Text → Request
 check_requested words =
@@ -375,6 +415,12 @@ unfoldable pub af_requested : List Text → Request
 af_requested words =
     if takes af_app words then af_request (af_value words (codes "kind")) (af_value words (codes "file")) else unknown
 
+-- what the words behind `lrat` ask for
+unfoldable pub lrat_requested : List Text → Request
+lrat_requested words =
+    if takes lrat_app words then lrat_request (lrat_value words (codes "cnf")) (lrat_value words (codes "lrat"))
+    else unknown
+
 -- what the words of a query ask for
 unfoldable pub solve_requested : List Text → Request
 solve_requested words =
@@ -393,6 +439,7 @@ requested_by (Some command.Live) words more = live_requested more
 requested_by (Some command.Bench) words more = bench_requested more
 requested_by (Some command.Names) words more = names_requested more
 requested_by (Some command.Af) words more = af_requested more
+requested_by (Some command.Lrat) words more = lrat_requested more
 requested_by None words more = other_requested words
 
 -- what the words ask for: the version where there is none, what their command says, or else the list of tasks or a query
@@ -448,6 +495,10 @@ names_texts words = record {
 abbrev pub af_texts : AfWords → AfTexts
 af_texts words = record { kind = words.kind.now; file = words.file.now }
 
+-- the texts of the words for a check of a refutation
+abbrev pub lrat_texts : LratWords → LratTexts
+lrat_texts words = record { cnf = words.cnf.now; lrat = words.lrat.now }
+
 -- what a command asks for
 abbrev pub request_of : Command → Request
 request_of Version = version
@@ -458,4 +509,5 @@ request_of (Live words) = living (live_texts words)
 request_of (Bench words) = benching (bench_texts words)
 request_of (Names words) = by_name (names_texts words)
 request_of (Af words) = numbering (af_texts words)
+request_of (Lrat words) = verifying (lrat_texts words)
 request_of Unknown = unknown

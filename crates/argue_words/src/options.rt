@@ -2,8 +2,8 @@
 
 ghost use Rattle.std.specs.Prelude.{◌≡◌, IfOk, codes, false};
 ghost use Rattle.clap.specs.Words.{app_of, rule_of, with_rule};
-ghost use Rattle.argue_words.specs.Words.{af_app, bare_app, bench_app, check_app, live_app, named_app, names_app, option_of};
-ghost use Rattle.argue_words.specs.Words.{script_app, solve_app, task_app};
+ghost use Rattle.argue_words.specs.Words.{af_app, bare_app, bench_app, check_app, live_app, lrat_app, named_app, names_app};
+ghost use Rattle.argue_words.specs.Words.{option_of, script_app, solve_app, task_app};
 
 use clap::{Arg, ArgAction, Command};
 use std::alloc::{AllocError, Global};
@@ -120,4 +120,13 @@ pub(crate) fn af_command<'a>(alloc: Global) -> Result<Command<'a>, AllocError>
 {
     let command = with_arg(bare_command(alloc), value_arg(alloc, "file", 'f', true))?;
     with_arg(command, value_arg(alloc, "kind", 'k', true))
+}
+
+/// The command of `-d CNF` and `-l LRAT`, whose words begin after the name of the command.
+#[tactic(auto, unfolding(crate::specs::Words::lrat_app))]
+pub(crate) fn lrat_command<'a>(alloc: Global) -> Result<Command<'a>, AllocError>
+    ensures { IfOk result (λ c. app_of c ≡ lrat_app) }
+{
+    let command = with_arg(bare_command(alloc), value_arg(alloc, "cnf", 'd', true))?;
+    with_arg(command, value_arg(alloc, "lrat", 'l', true))
 }

@@ -7,11 +7,13 @@ ghost use Rattle.argue_words.specs.Words.{AreUnknown, RefusesOthers, af_app, af_
 ghost use Rattle.argue_words.specs.Words.{bench_request, bench_requested, bench_value, check_app, check_request};
 ghost use Rattle.argue_words.specs.Words.{check_requested, check_value, live_app, live_request, live_requested, live_value};
 ghost use Rattle.argue_words.specs.Words.{named, names_app, names_request, names_requested, names_value, other_requested};
+ghost use Rattle.argue_words.specs.Words.{lrat_app, lrat_request, lrat_requested, lrat_value};
 ghost use Rattle.argue_words.specs.Words.{request_of, requested, solve_app, solve_request, solve_requested, solve_value};
 ghost use Rattle.argue_words.specs.Words.{words_are_problems};
 
 use crate::options::{
-    af_command, bench_command, check_command, live_command, names_command, solve_command,
+    af_command, bench_command, check_command, live_command, lrat_command, names_command,
+    solve_command,
 };
 use clap::ArgMatches;
 use clap::error::ErrorKind;
@@ -26,6 +28,7 @@ pub enum CommandName {
     Bench,
     Names,
     Af,
+    Lrat,
 }
 
 /// What the words ask for.
@@ -47,6 +50,8 @@ pub enum Command<'a> {
     Names(NamesWords<'a>),
     /// The text with numbers of a framework whose arguments have names.
     Af(AfWords<'a>),
+    /// A check of a refutation of a CNF.
+    Lrat(LratWords<'a>),
     /// Words that clap refuses.
     Unknown,
 }
@@ -115,6 +120,14 @@ pub struct AfWords<'a> {
     pub file: &'a str,
 }
 
+/// The words for a check of a refutation: the names of the files of a CNF, as DIMACS writes it, and of its refutation, in
+/// the format LRAT.
+#[derive(Clone, Copy, PartialEq, Eq)]
+pub struct LratWords<'a> {
+    pub cnf: &'a str,
+    pub lrat: &'a str,
+}
+
 /// Reads the words after the program's name. No words ask for the version, and `--problems` alone for the list of tasks.
 /// Else the first word names the command (`CommandName`), or the command is to solve; clap reads the options of its
 /// row in `options.rt`, each with one value, in any order. A command comes exactly where clap takes its options, and
@@ -134,6 +147,7 @@ pub fn read_words<'a>(alloc: Global, words: &'a [String]) -> Result<Command<'a>,
         Some(CommandName::Bench) => read_bench(alloc, rest),
         Some(CommandName::Names) => read_names(alloc, rest),
         Some(CommandName::Af) => read_af(alloc, rest),
+        Some(CommandName::Lrat) => read_lrat(alloc, rest),
         None => read_other(alloc, words),
     }
 }
@@ -156,6 +170,9 @@ fn named(word: &str) -> Option<CommandName>
     }
     if word == "af" {
         return Some(CommandName::Af);
+    }
+    if word == "lrat" {
+        return Some(CommandName::Lrat);
     }
     None
 }
@@ -240,6 +257,16 @@ fn read_af<'a>(alloc: Global, words: &'a [String]) -> Result<Command<'a>, Memory
     }
 }
 
+// What the words behind `lrat` ask for.
+fn read_lrat<'a>(alloc: Global, words: &'a [String]) -> Result<Command<'a>, Memory>
+    ensures request { IfOk result (λ c. request_of c ≡ lrat_requested (map string_bytes words.now)) }
+{
+    match lrat_matches(alloc, words) {
+        Ok(matches) => Ok(lrat_of(&matches)),
+        Err(error) => refusal(&error),
+    }
+}
+
 // What clap matches on the words of a query.
 fn solve_matches<'a>(alloc: Global, words: &'a [String]) -> Result<ArgMatches<'a>, clap::Error>
     ensures taken { IfOk result (λ _. takes solve_app (map string_bytes words.now) ≡ true) }
@@ -311,6 +338,18 @@ fn af_matches<'a>(alloc: Global, words: &'a [String]) -> Result<ArgMatches<'a>, 
         → kind_of e ≡ ErrorKind.OutOfMemory) }
 {
     let command = af_command(alloc)?;
+    command.try_get_matches_from(words)
+}
+
+// What clap matches on the words of a check of a refutation.
+fn lrat_matches<'a>(alloc: Global, words: &'a [String]) -> Result<ArgMatches<'a>, clap::Error>
+    ensures taken { IfOk result (λ _. takes lrat_app (map string_bytes words.now) ≡ true) }
+    ensures values { IfOk result (λ m. (id : List ℕ)
+        → first_value (found_of m) id ≡ lrat_value (map string_bytes words.now) id) }
+    ensures refused { IfErr result (λ e. takes lrat_app (map string_bytes words.now) ≡ true
+        → kind_of e ≡ ErrorKind.OutOfMemory) }
+{
+    let command = lrat_command(alloc)?;
     command.try_get_matches_from(words)
 }
 
@@ -420,6 +459,20 @@ fn af_of<'a>(matches: &ArgMatches<'a>) -> Command<'a>
         return Command::Unknown;
     };
     Command::Af(AfWords { kind, file })
+}
+
+// The check of a refutation of words that clap takes.
+fn lrat_of<'a>(matches: &ArgMatches<'a>) -> Command<'a>
+    ensures { request_of result ≡ lrat_request (first_value (found_of matches.now) (codes "cnf"))
+        (first_value (found_of matches.now) (codes "lrat")) }
+{
+    let Some(cnf) = matches.get_str("cnf") else {
+        return Command::Unknown;
+    };
+    let Some(lrat) = matches.get_str("lrat") else {
+        return Command::Unknown;
+    };
+    Command::Lrat(LratWords { cnf, lrat })
 }
 
 // The query of words that clap takes.

@@ -87,7 +87,7 @@ named_reading found format file Usage (inl stops) h = absurd stops
 named_reading found format file WriteFault (inl stops) h = absurd stops
 named_reading found format file WantOfMemory (inl stops) h = absurd stops
 named_reading found format file Unknown (inl stops) h = absurd stops
-named_reading found format file (Rejected failure refutation step) (inl stops) h = absurd stops
+named_reading found format file (Rejected rejection) (inl stops) h = absurd stops
 named_reading found format file (ReadFault of) (inr memory) h = inr memory
 named_reading found format file (Limit l) (inr memory) h = inr memory
 named_reading found format file Done (inr memory) h = inr memory
@@ -95,7 +95,7 @@ named_reading found format file Usage (inr memory) h = inr memory
 named_reading found format file WriteFault (inr memory) h = inr memory
 named_reading found format file WantOfMemory (inr memory) h = inr memory
 named_reading found format file Unknown (inr memory) h = inr memory
-named_reading found format file (Rejected failure refutation step) (inr memory) h = inr memory
+named_reading found format file (Rejected rejection) (inr memory) h = inr memory
 
 module _ (found : Reading) (file bytes : List ℕ) (has : HasBytes (found.holds file) bytes) where
   text_ends : (naming : Naming) (texts : NamesTexts) (end : Status) → texts.file ≡ file
@@ -114,7 +114,7 @@ module _ (found : Reading) (file bytes : List ℕ) (has : HasBytes (found.holds 
   text_ends naming texts WriteFault same stops = absurd stops
   text_ends naming texts Unknown same stops = absurd stops
   text_ends naming texts (Limit l) same stops = absurd stops
-  text_ends naming texts (Rejected failure refutation step) same stops = absurd stops
+  text_ends naming texts (Rejected rejection) same stops = absurd stops
 
   -- what is said of the text is said of the file
   pub naming_err : {T : Type 0} (naming : Naming) (texts : NamesTexts) (r : Result T Status) → texts.file ≡ file
@@ -135,7 +135,7 @@ module _ (found : Reading) (file bytes : List ℕ) (has : HasBytes (found.holds 
   numbering_ends format WriteFault stops = absurd stops
   numbering_ends format Unknown stops = absurd stops
   numbering_ends format (Limit l) stops = absurd stops
-  numbering_ends format (Rejected failure refutation step) stops = absurd stops
+  numbering_ends format (Rejected rejection) stops = absurd stops
 
   pub numbering_err : {T : Type 0} (format : NameFormat) (r : Result T Status) → IfErr r (StopsNumbering format bytes)
       → IfErr r (EndsReading found (named_input format file))
@@ -153,7 +153,7 @@ told_unless WriteFault other = refl
 told_unless WantOfMemory other = refl
 told_unless Unknown other = refl
 told_unless (Limit l) other = refl
-told_unless (Rejected failure refutation step) other = refl
+told_unless (Rejected rejection) other = refl
 
 -- a run that stopped has a text of its own
 pub naming_told : {T : Type 0} (bytes : List ℕ) (naming : Naming) (name : Option (List ℕ)) (r : Result T Status)

@@ -1,5 +1,5 @@
 use Rattle.clap.specs.Words.{first_value, found_of}
-use Rattle.argue_words.proofs.RequestLaws.{af_at, af_matched}
+use Rattle.argue_words.proofs.FoundLaws.{af_at, af_matched}
 use Rattle.argue_words.proofs.words.read_af.Goals as goal
 
 pub returns-in-Ok : goal.returns-in-Ok

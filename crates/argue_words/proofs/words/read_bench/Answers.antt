@@ -1,5 +1,5 @@
 use Rattle.clap.specs.Words.{first_value, found_of}
-use Rattle.argue_words.proofs.RequestLaws.{bench_at, bench_matched}
+use Rattle.argue_words.proofs.FoundLaws.{bench_at, bench_matched}
 use Rattle.argue_words.proofs.words.read_bench.Goals as goal
 
 pub returns-in-Ok : goal.returns-in-Ok

@@ -1,5 +1,5 @@
 use Rattle.clap.specs.Words.{first_value, found_of}
-use Rattle.argue_words.proofs.RequestLaws.{names_at, names_matched}
+use Rattle.argue_words.proofs.FoundLaws.{names_at, names_matched}
 use Rattle.argue_words.proofs.words.read_names.Goals as goal
 
 pub returns-in-Ok : goal.returns-in-Ok

@@ -1,5 +1,5 @@
 use Rattle.clap.specs.Words.{first_value, found_of}
-use Rattle.argue_words.proofs.RequestLaws.{refused_solve, solve_at, solve_matched}
+use Rattle.argue_words.proofs.FoundLaws.{refused_solve, solve_at, solve_matched}
 use Rattle.argue_words.proofs.words.read_solve.Goals as goal
 
 pub returns-in-Ok : goal.returns-in-Ok

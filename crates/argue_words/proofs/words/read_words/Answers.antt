@@ -2,7 +2,7 @@ use Rattle.std.proofs.Common.{◌≡◌, ◌∷◌, ◌∙◌, ap, map, rules, s
 use Rattle.std.specs.String.{string_bytes}
 use Rattle.argue_words.specs.declared.words.CommandName.TheVariants as command
 use Rattle.argue_words.specs.Words.{named}
-use Rattle.argue_words.proofs.RequestLaws.{named_unknown}
+use Rattle.argue_words.proofs.FoundLaws.{named_unknown}
 use Rattle.argue_words.proofs.words.read_words.Goals as goal
 
 pub returns-in-Some-Check-clause-unknown : goal.returns-in-Some-Check-clause-unknown
@@ -39,3 +39,10 @@ returns-in-Some-Af-clause-unknown c =
     named_unknown (map string_bytes c.args.words.now) (map string_bytes c.in-Some.rest.now)
     (string_bytes c.in-Some.first.now) command.Af c.read_af.result (search rules)
     (ap named (sym c.as_str.ensures.value) ∙ sym c.named.ensures ∙ c.in-Some-Af.is ∙ ap Some is) c.read_af.ensures.request
+
+pub returns-in-Some-Lrat-clause-unknown : goal.returns-in-Some-Lrat-clause-unknown
+returns-in-Some-Lrat-clause-unknown c =
+    let is : c.in-Some-Lrat.field-0 ≡ command.Lrat = search rules in
+    named_unknown (map string_bytes c.args.words.now) (map string_bytes c.in-Some.rest.now)
+    (string_bytes c.in-Some.first.now) command.Lrat c.read_lrat.result (search rules)
+    (ap named (sym c.as_str.ensures.value) ∙ sym c.named.ensures ∙ c.in-Some-Lrat.is ∙ ap Some is) c.read_lrat.ensures.request
