@@ -8,5 +8,5 @@ returns c =
     let steps = c.args.log.now.steps in
     let last = c.clause-last.ensures.clause ∙ ap (λ n. (step_at steps n).clause) (c.new.ensures ∙ c.len.ensures.steps) in
     cnf_written c.args.vars _ steps c.clause-last.result.now _ _ _
-    c.clause_count.ensures last
+    c.clause_count-count.ensures last
     c.in_ok-text.ensures.ok c.in_ok-push_all_given.ensures c.in_ok-push_units.ensures
