@@ -98,7 +98,8 @@ numbers_grown old new l var n =
 
 image_next : (old new : List Atom) (before : List Lit) (front : List AtomLit) (l : AtomLit) (var : ℕ)
     → IsImage (lit_over old) (IsKnown old) before front → Numbers old new l.atom var
-    → IsImage (lit_over new) (IsKnown new) (before ++ record { var = var; positive = l.positive } ∷ []) (front ++ l ∷ [])
+    → IsImage (lit_over new) (IsKnown new) (before ++ record { var = var; positive = l.positive } ∷ [])
+    (front ++ l ∷ [])
 image_next old new before front l var h n =
     let lit : Lit = record { var = var; positive = l.positive } in
     let known : IsKnown new lit = known_at new l.atom var n.at in
@@ -178,8 +179,8 @@ map_itself [] = refl
 map_itself (x ∷ xs) = ap (λ r. x ∷ r) (map_itself xs)
 
 -- a check of clauses that stand for others is one of these
-pub over_atoms : (atoms : List Atom) (clauses : List (List AtomLit)) (logged : List (List Lit)) (literals : List AtomLit)
-    (clause : List Lit) (hints : List ℕ) (outcome : Result ℕ ℕ) → AreDifferent atoms
+pub over_atoms : (atoms : List Atom) (clauses : List (List AtomLit)) (logged : List (List Lit))
+    (literals : List AtomLit) (clause : List Lit) (hints : List ℕ) (outcome : Result ℕ ℕ) → AreDifferent atoms
     → AreStanding atoms clauses logged → StandsFor atoms literals clause → Checks negation logged clause hints outcome
     → Checks negated clauses literals hints outcome
 over_atoms atoms clauses logged literals clause hints outcome different standing stands h =

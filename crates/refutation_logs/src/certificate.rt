@@ -2,35 +2,40 @@
 
 ghost use Rattle.std.specs.Prelude.{◌<◌, length, IfOk};
 ghost use Rattle.edit_rules.specs.Kinds.{framework_of};
-ghost use Rattle.answer_claims.specs.SideClauses.{sides_of};
-ghost use Rattle.certificate_claims.specs.Acceptance.{IsAccepted};
 ghost use Rattle.certificate_claims.specs.Claims.{row_of};
-ghost use Rattle.certificate_claims.specs.Verdicts.{claim_at, steps_at};
-ghost use Rattle.refutation_logs.specs.Exports.{IsExportOf};
+ghost use Rattle.certificate_claims.specs.Verdicts.{IsVerdict, claim_at, steps_at};
+ghost use Rattle.refutation_logs.specs.Exports.{IsExportOf, sides_in, steps_in};
 ghost use Rattle.refutation_logs.specs.Logged.{AllHold};
 
 use crate::texts::{Exported, export_steps};
 use answer_claims::{Claim, claims_of, row};
-use certificate_claims::{Certificate, Step};
+use certificate_claims::{Certificate, Refutation, Verdict};
 use edit_rules::Framework;
 use iccma_tasks::{Answer, Query};
 use lists::Memory;
 use std::alloc::Global;
 
-// The texts of a refutation of a claim.
-fn export_claim(
+// The texts of the refutation at an index, beside the side clauses of the claim there.
+fn export_at(
     alloc: Global,
     framework: &Framework,
-    claim: &Claim,
-    steps: &[Step],
+    claims: &[Claim],
+    refutations: &[Refutation],
+    index: usize,
 ) -> Result<Exported, Memory>
-    requires some { 0 < length steps.now }
-    requires hold { AllHold (framework_of framework.now)
-        (sides_of (framework_of framework.now) claim.now.kind claim.now.sides) steps.now }
-    ensures { IfOk result (IsExportOf
-        (sides_of (framework_of framework.now) claim.now.kind claim.now.sides) steps.now) }
+    requires claim { index < length claims.now }
+    requires refutation { index < length refutations.now }
+    requires some { 0 < length (steps_in refutations.now index) }
+    requires hold { AllHold (framework_of framework.now) (sides_in (framework_of framework.now) claims.now index)
+        (steps_in refutations.now index) }
+    ensures { IfOk result (IsExportOf (sides_in (framework_of framework.now) claims.now index)
+        (steps_in refutations.now index)) }
 {
-    export_steps(alloc, framework, claim.kind, claim.sides.as_slice(), steps)
+    let claim = &claims[index];
+    let steps = refutations[index].steps.as_slice();
+    let sides = claim.sides.as_slice();
+    let exported = export_steps(alloc, framework, claim.kind, sides, steps)?;
+    Ok(exported)
 }
 
 /// The texts of the refutation at an index of an accepted certificate, beside the side clauses of its claim. `Memory`
@@ -43,7 +48,7 @@ pub fn export_refutation(
     certificate: &Certificate,
     index: usize,
 ) -> Result<Exported, Memory>
-    requires accepted { IsAccepted (framework_of framework.now) query.now answer.now certificate.now }
+    requires accepted { IsVerdict (framework_of framework.now) query.now answer.now certificate.now Verdict.Accepted }
     requires index { index < length certificate.now.refutations }
     ensures { IfOk result (IsExportOf (claim_at (framework_of framework.now)
         (row_of (framework_of framework.now) query.now answer.now) certificate.now index).sides
@@ -51,8 +56,7 @@ pub fn export_refutation(
 {
     let row = row(alloc, framework, query, answer)?;
     let claims = claims_of(alloc, framework, &row, certificate.sets.as_slice())?;
-    let claim = &claims.as_slice()[index];
-    let steps = certificate.refutations.as_slice()[index].steps.as_slice();
-    let exported = export_claim(alloc, framework, claim, steps)?;
+    let refutations = certificate.refutations.as_slice();
+    let exported = export_at(alloc, framework, claims.as_slice(), refutations, index)?;
     Ok(exported)
 }

@@ -12,11 +12,7 @@ use plain_lits::{Clause, Lit};
 use std::alloc::Global;
 
 // The literals of a clause by the variables of their atoms, which get variables where they have none.
-fn spell(
-    alloc: Global,
-    atoms: &mut AtomTable,
-    clause: &[AtomLit],
-) -> Result<Vec<Lit>, Memory>
+fn spell(alloc: Global, atoms: &mut AtomTable, clause: &[AtomLit]) -> Result<Vec<Lit>, Memory>
     ensures spelled { IfOk result (λ lits. IsImage (lit_over atoms.new) (IsKnown atoms.new) lits.items clause.now) }
     ensures appearance { OnOk result (atoms.new ≡ with_atoms atoms.old clause.now) }
 {

@@ -135,7 +135,8 @@ fn add_step(
     atoms: &mut AtomTable,
     log: &mut Log,
 ) -> Result<(), Memory>
-    requires step { CanBeAdded (framework_of framework.now) (length sets.now) atoms.old (clauses_of log.old.steps) step.now }
+    requires step { CanBeAdded (framework_of framework.now) (length sets.now) atoms.old (clauses_of log.old.steps)
+        step.now }
     requires room { length log.old.steps < log.old.limit }
     ensures { OnOk result (AddsStepFor (sides_of (framework_of framework.now) kind sets.now) step.now
         atoms.old atoms.new log.old log.new) }
@@ -160,7 +161,8 @@ fn add_steps(
     atoms: &mut AtomTable,
     log: &mut Log,
 ) -> Result<(), Memory>
-    requires hold { AllHold (framework_of framework.now) (sides_of (framework_of framework.now) kind sets.now) steps.now }
+    requires hold { AllHold (framework_of framework.now)
+        (sides_of (framework_of framework.now) kind sets.now) steps.now }
     requires atoms { atoms.old ≡ [] }
     requires none { log.old.steps ≡ [] }
     requires limit { log.old.limit ≡ length steps.now }
@@ -168,21 +170,13 @@ fn add_steps(
         atoms.new log.new.steps) }
 {
     for index in 0..steps.len() {
-        add_step(
-            alloc,
-            framework,
-            kind,
-            sets,
-            &steps[index],
-            atoms,
-            log,
-        )?;
+        add_step(alloc, framework, kind, sets, &steps[index], atoms, log)?;
     }
     Ok(())
 }
 
-/// The log of a refutation whose steps stand, beside the side clauses of sets. Its steps are the refutation's, in order:
-/// axioms, sides, and derived steps with the hints by which the check takes them. The variables are the atoms of these
+/// The log of a refutation whose steps stand, beside the side clauses of sets. Its steps are the refutation's, in
+/// order: axioms, sides, and derived steps with the hints by which the check takes them. The variables are the atoms of these
 /// by first appearance. `Memory` says that an allocation was refused, or that there are more steps than
 /// [`hinted_log::MAX_STEPS`].
 pub fn log_of_refutation(

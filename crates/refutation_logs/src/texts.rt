@@ -68,7 +68,8 @@ pub fn export_steps(
     steps: &[Step],
 ) -> Result<Exported, Memory>
     requires some { 0 < length steps.now }
-    requires hold { AllHold (framework_of framework.now) (sides_of (framework_of framework.now) kind sets.now) steps.now }
+    requires hold { AllHold (framework_of framework.now)
+        (sides_of (framework_of framework.now) kind sets.now) steps.now }
     ensures { IfOk result (IsExportOf (sides_of (framework_of framework.now) kind sets.now) steps.now) }
 {
     let logged = log_of_refutation(alloc, framework, kind, sets, steps)?;
