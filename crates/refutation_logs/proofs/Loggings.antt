@@ -1,5 +1,5 @@
 -- A log of the steps of a refutation, with one step more.
-use Rattle.std.proofs.Common.{◌≡◌, ◌⊎◌, ℕ, ◌+◌, ◌-◌, ◌<◌, ◌≤◌, List, [], ◌∷◌, ◌++◌, length, get_or, map, take, fold, Ok, arith, refl, ap, sym, subst, ◌∙◌, ⊎_elim}
+use Rattle.std.proofs.Common.{◌≡◌, ℕ, ◌+◌, ◌-◌, ◌<◌, ◌≤◌, List, [], ◌∷◌, ◌++◌, length, get_or, take, fold, Ok, arith, refl, ap, sym, subst, ◌∙◌, ⊎_elim}
 use Rattle.std.specs.Prelude.{Contains}
 use Rattle.std.proofs.Math.Seq.{take-append_seam}
 use Rattle.std.proofs.lemmas.Bool.{cases_eq}
@@ -22,7 +22,6 @@ use Rattle.answer_claims.specs.declared.sides.SideKind.{SideKind}
 use Rattle.answer_claims.specs.SideClauses.{side_of, sides_of}
 use Rattle.atom_table.specs.Numbering.{AreDifferent}
 use Rattle.hinted_log.specs.Logs.{AddsDerived, AddsStep, LogState, Step as LogStep, clauses_of, given_step, derived_step, no_step as no_logged}
-use Rattle.hinted_log.specs.declared.step_kind.StepKind.{StepKind}
 use Rattle.hinted_log.specs.declared.step_kind.StepKind.TheVariants as kinds
 use Rattle.clause_bench.specs.Benches.{HasGrown}
 use Rattle.lrat_writing.specs.Walks.{last_clause}

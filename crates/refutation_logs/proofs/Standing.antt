@@ -1,5 +1,5 @@
 -- Clauses over variables that stand for clauses over atoms.
-use Rattle.std.proofs.Common.{◌≡◌, ◌⊎◌, ℕ, ◌+◌, ◌-◌, ◌<◌, ◌≤◌, Bool, true, false, List, [], ◌∷◌, ◌++◌, length, get_or, map, take, fold, Result, Ok, Err, arith, refl, ap, sym, subst, ◌∙◌, ⊎_elim, append_assoc}
+use Rattle.std.proofs.Common.{◌≡◌, ℕ, ◌+◌, ◌-◌, ◌<◌, Bool, true, false, List, [], ◌∷◌, ◌++◌, length, get_or, map, take, Result, Ok, Err, arith, refl, ap, sym, subst, ◌∙◌, ⊎_elim, append_assoc}
 use Rattle.std.specs.Prelude.{Contains, Some, slice_get, if◌then◌else◌}
 use Rattle.std.specs.List.{list_any}
 use Rattle.std.proofs.Math.ListN.{get_or-append}
@@ -12,7 +12,7 @@ use Rattle.lists.proofs.ListTests.{any_from, any_gives}
 use Rattle.lists.proofs.Membership.{Contains-nil, Contains-pushed}
 use Rattle.plain_lits.specs.declared.lit.Lit.{Lit}
 use Rattle.plain_lits.specs.Literals.{negation, IsClauseOf}
-use Rattle.plain_lits.specs.HintCheck.{Checks, IsNamed}
+use Rattle.plain_lits.specs.HintCheck.{Checks}
 use Rattle.plain_lits.specs.CheckLaws.{Renames, IsImage, IsMovedCheck}
 use Rattle.plain_lits.proofs.OneOutcome.{one_outcome}
 use Rattle.plain_lits.proofs.Renaming.{checks_moved}

@@ -1,6 +1,5 @@
-use Rattle.std.proofs.Common.{◌<◌, length, arith, ap, sym, subst, ◌∙◌, refl}
+use Rattle.std.proofs.Common.{arith, ap, sym, ◌∙◌}
 use Rattle.edit_rules.specs.Kinds.{framework_of}
-use Rattle.certificate_claims.specs.Verdicts.{steps_at}
 use Rattle.refutation_logs.specs.Exports.{sides_in, steps_in}
 use Rattle.refutation_logs.proofs.Accepted.{accepted, accepted_claims, accepted_sets, as_many, export_moved, hold_moved, sides_are, some_step, steps_hold}
 use Rattle.refutation_logs.proofs.certificate.export_refutation.Goals as goal

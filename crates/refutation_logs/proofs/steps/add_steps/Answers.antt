@@ -1,5 +1,4 @@
 use Rattle.edit_rules.specs.Kinds.{framework_of}
-use Rattle.answer_claims.specs.SideClauses.{sides_of}
 use Rattle.std.proofs.Common.{arith}
 use Rattle.refutation_logs.proofs.Loggings.{all_logged, has_room, logged_next, next_can, none_logged}
 use Rattle.refutation_logs.proofs.steps.add_steps.Goals as goal

@@ -1,5 +1,3 @@
-use Rattle.edit_rules.specs.Kinds.{framework_of}
-use Rattle.answer_claims.specs.SideClauses.{sides_of}
 use Rattle.refutation_logs.proofs.Loggings.{log_rises, log_room, log_some}
 use Rattle.refutation_logs.proofs.texts.export_steps.Goals as goal
 
