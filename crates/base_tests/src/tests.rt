@@ -8,6 +8,7 @@ mod certificates;
 mod comparisons;
 mod definitions;
 mod edits;
+mod exports;
 mod fields;
 mod list_tests;
 mod named_texts;

@@ -1,6 +1,6 @@
 mod SetLemmas
 mod SectionLemmas
-mod RowLemmas
+pub mod RowLemmas
 pub mod AxiomKinds
 mod GoalLemmas
 mod HintLemmas

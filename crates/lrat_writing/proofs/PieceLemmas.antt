@@ -1,9 +1,9 @@
 -- What is added piece by piece is the text.
-use Rattle.std.proofs.Common.{◌≡◌, ℕ, ◌+◌, ◌-◌, ◌<◌, ◌≤◌, List, [], ◌∷◌, ◌++◌, length, length-append, map, take, refl, sym, ap, subst, ◌∙◌, arith, codes, append_assoc, get_or}
+use Rattle.std.proofs.Common.{◌≡◌, ℕ, ◌+◌, ◌-◌, ◌<◌, ◌≤◌, List, [], ◌∷◌, ◌++◌, length, length-append, map, take, fold, refl, sym, ap, subst, ◌∙◌, arith, codes, append_assoc, get_or}
 use Rattle.std.specs.List.{flat_map, range_with_len}
 use Rattle.std.specs.Fmt.{decimal}
 use Rattle.std.proofs.lemmas.Grind.{flat_map-append}
-use Rattle.std.proofs.lemmas.List.{append-nil, length-map, map-append}
+use Rattle.std.proofs.lemmas.List.{append-nil, length-map, length_push, map-append}
 use Rattle.std.proofs.lemmas.List.Sums.{fold_more}
 use Rattle.plain_lits.specs.declared.lit.Lit.{Lit}
 use Rattle.plain_lits.specs.Literals.{negation}
@@ -13,7 +13,7 @@ use Rattle.hinted_log.specs.declared.step_kind.StepKind.TheVariants.{Axiom, Side
 use Rattle.lrat_text.specs.Checking.{StepLine, step_line}
 use Rattle.lrat_writing.specs.Texts.{lit_text, spaced, clause_line, header_line, cnf_text, step_fields, step_text, lrat_text}
 use Rattle.lrat_writing.specs.Pieces.{literal_piece, number_piece, clause_piece, unit_piece, kind_piece, given_piece, IsWritten}
-use Rattle.lrat_writing.specs.Walks.{shifted, shifted_clause, given_by, given_of, given_clauses, last_clause, unit_of, cnf_clauses, formula_of, Walk, start, id_in, walk, walk_step}
+use Rattle.lrat_writing.specs.Walks.{shifted, shifted_clause, given_by, given_of, given_clauses, last_clause, unit_of, cnf_clauses, formula_of, Walk, start, id_in, next_id, final_line, step_lines, walk, walk_on, walk_step}
 use Rattle.lrat_writing.proofs.Verifies.{row_more}
 
 -- ---- fields with blanks
@@ -138,6 +138,33 @@ cnf_long steps =
 pub cnf_count : (steps : List Step) (given : ℕ) (last : List Lit) → given ≡ length (given_clauses steps)
     → last ≡ last_clause steps → given + length last ≡ length (cnf_clauses steps)
 cnf_count steps given last e same = let a = cnf_long steps in let b = ap length same in omega (arith, a, b, e)
+
+lines_with : (count : ℕ) (w : Walk) (kind : StepKind) (clause : List Lit) (hints : List ℕ)
+    → length (walk_on count w kind clause hints).lines + length (given_by kind clause) ≡ length w.lines + 1
+lines_with count w Axiom clause hints = refl
+lines_with count w Side clause hints = refl
+lines_with count w Derived clause hints =
+    let line = step_line (next_id count w) (shifted_clause clause) (map (id_in w.ids) hints) in
+    omega (arith, length_push w.lines line)
+
+lines_after : (count : ℕ) (steps : List Step) (w : Walk)
+    → length (fold (walk_step count) w steps).lines + length (given_clauses steps) ≡ length w.lines + length steps
+lines_after count [] w = refl
+lines_after count (s ∷ ss) w =
+    let one = lines_with count w s.kind s.clause s.hints in
+    let rest = lines_after count ss (walk_step count w s) in
+    let long = length-append (given_of s) (given_clauses ss) in
+    omega (arith, one, rest, long)
+
+-- a line for each derived step, and the one without literals
+pub line_count : (steps : List Step) (all given : ℕ) → all ≡ length steps → given ≡ length (given_clauses steps)
+    → all - given + 1 ≡ length (step_lines steps)
+line_count steps all given many few =
+    let count = length (cnf_clauses steps) in
+    let w = walk count steps in
+    let sum = lines_after count steps start in
+    let more = length_push w.lines (final_line count steps w) in
+    omega (arith, many, few, sum, more)
 
 pub cnf_written : (vars count : ℕ) (steps : List Step) (last : List Lit) (t1 t2 t3 : List ℕ)
     → count ≡ length (cnf_clauses steps) → last ≡ last_clause steps → t1 ≡ header_line vars count

@@ -6,7 +6,7 @@ ghost use Rattle.std.specs.String.{string_bytes};
 ghost use Rattle.hinted_log.specs.Logs.{IsStepOf, step_at};
 ghost use Rattle.lrat_writing.specs.Texts.{cnf_text};
 ghost use Rattle.lrat_writing.specs.Pieces.{literal_piece, clause_piece, unit_piece, given_piece, kind_count};
-ghost use Rattle.lrat_writing.specs.Walks.{formula_of, given_clauses};
+ghost use Rattle.lrat_writing.specs.Walks.{cnf_clauses, formula_of, given_clauses, step_lines};
 
 use hinted_log::{Log, StepKind};
 use lists::Memory;
@@ -103,13 +103,29 @@ pub(crate) fn given_count(log: &Log) -> usize
     count
 }
 
+/// How many clauses the CNF has that stands for a log.
+pub(crate) fn clause_count(log: &Log) -> usize
+    requires { 0 < length log.now.steps }
+    ensures { result ≡ length (cnf_clauses log.now.steps) }
+{
+    let last = log.clause(StepId::new(log.len() as u32));
+    given_count(log) + last.len()
+}
+
+/// How many lines stand for a log: one for each derived step, and the one without literals.
+pub(crate) fn line_count(log: &Log) -> usize
+    ensures { result ≡ length (step_lines log.now.steps) }
+{
+    log.len() - given_count(log) + 1
+}
+
 /// The text of the CNF that stands for a log.
 pub(crate) fn cnf_of(alloc: Global, log: &Log, vars: u32) -> Result<String, Memory>
     requires { 0 < length log.now.steps }
     ensures { IfOk result (λ text. string_bytes text ≡ cnf_text (formula_of vars log.now.steps)) }
 {
     let last = log.clause(StepId::new(log.len() as u32));
-    let count = given_count(log) + last.len();
+    let count = clause_count(log);
     let mut text = format!(in alloc; "p cnf {vars} {count}\n")?;
     push_all_given(&mut text, log)?;
     push_units(&mut text, last)?;

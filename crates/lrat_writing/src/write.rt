@@ -10,9 +10,9 @@ ghost use Rattle.lrat_text.specs.LratText.{IsChecked};
 ghost use Rattle.lrat_text.specs.declared.cnf.TheConstants.{MAX_VARIABLE};
 ghost use Rattle.lrat_text.specs.declared.verdict.Verdict.TheVariants.{Verified};
 ghost use Rattle.lrat_writing.specs.Texts.{cnf_text, lrat_text};
-ghost use Rattle.lrat_writing.specs.Walks.{formula_of, last_clause, step_lines};
+ghost use Rattle.lrat_writing.specs.Walks.{cnf_clauses, formula_of, last_clause, step_lines};
 
-use crate::clauses::cnf_of;
+use crate::clauses::{clause_count, cnf_of, line_count};
 use crate::steps::lrat_of;
 use hinted_log::Log;
 use lists::{Bytes, Memory};
@@ -24,12 +24,21 @@ pub struct Written {
     pub cnf: Bytes,
     /// The derived steps, and the line without literals.
     pub lrat: Bytes,
+    /// How many clauses the CNF has.
+    pub clauses: usize,
+    /// How many lines there are.
+    pub lines: usize,
 }
 
 // By hand, so that a drop is one call (docs/PROVING.md).
 impl Drop for Written {
     fn drop(self) {
-        let Written { cnf: _, lrat: _ } = self;
+        let Written {
+            cnf: _,
+            lrat: _,
+            clauses: _,
+            lines: _,
+        } = self;
     }
 }
 
@@ -46,15 +55,21 @@ pub fn write_refutation(alloc: Global, log: &Log, vars: u32) -> Result<Written, 
     requires rises { LitsRise (last_clause log.now.steps) }
     ensures cnf { IfOk result (λ w. w.cnf ≡ cnf_text (formula_of vars log.now.steps)) }
     ensures lrat { IfOk result (λ w. w.lrat ≡ lrat_text (step_lines log.now.steps)) }
+    ensures clauses { IfOk result (λ w. w.clauses ≡ length (cnf_clauses log.now.steps)) }
+    ensures lines { IfOk result (λ w. w.lines ≡ length (step_lines log.now.steps)) }
     ensures reads { IfOk result (λ w. length w.cnf ≤ MAX_INPUT → IsCnfText w.cnf (formula_of vars log.now.steps)) }
     ensures verified { IfOk result (λ w. length w.cnf ≤ MAX_INPUT
         → IsChecked (formula_of vars log.now.steps) w.lrat (Ok Verified)) }
 {
     let _count = log.len();
+    let clauses = clause_count(log);
+    let lines = line_count(log);
     let cnf = cnf_of(alloc, log, vars)?;
     let lrat = lrat_of(alloc, log)?;
     Ok(Written {
         cnf: Bytes::from_vec(cnf.into_bytes()),
         lrat: Bytes::from_vec(lrat.into_bytes()),
+        clauses,
+        lines,
     })
 }
