@@ -176,8 +176,8 @@ fn add_steps(
 }
 
 /// The log of a refutation whose steps stand, beside the side clauses of sets. Its steps are the refutation's, in
-/// order: axioms, sides, and derived steps with the hints by which the check takes them. The variables are the atoms of these
-/// by first appearance. `Memory` says that an allocation was refused, or that there are more steps than
+/// order: axioms, sides, and derived steps with the hints by which the check takes them. The variables are the atoms of
+/// these by first appearance. `Memory` says that an allocation was refused, or that there are more steps than
 /// [`hinted_log::MAX_STEPS`].
 pub(crate) fn log_of_refutation(
     alloc: Global,
