@@ -38,8 +38,12 @@ fn export_at(
     Ok(exported)
 }
 
-/// The texts of the refutation at an index of an accepted certificate, beside the side clauses of its claim. `Memory`
-/// says that an allocation was refused, or that the refutation is longer than a log may be (see [`export_steps`]).
+/// The texts of the refutation at an index of an accepted certificate. The CNF has the clauses of its axioms and side
+/// clauses in order, and then for each literal of its last step the negation. The lines are the derived steps, each
+/// with its hints up to the false one, and one without literals. The variables are the atoms of the steps by first
+/// appearance. Where the CNF is no longer than a text may be, it is read as these clauses, and where the lines are not
+/// either, the check tells [`lrat_text::Verdict::Verified`]. `Memory` says that an allocation was refused, or that
+/// there are more steps than [`hinted_log::MAX_STEPS`] or more atoms than [`lrat_text::MAX_VARIABLE`].
 pub fn export_refutation(
     alloc: Global,
     framework: &Framework,

@@ -4,8 +4,7 @@
 mod certificate;
 mod numbering;
 mod steps;
-mod texts;
+pub mod texts;
 
 pub use certificate::export_refutation;
-pub use steps::{RefutationLog, log_of_refutation};
-pub use texts::{Exported, export_steps};
+pub use texts::Exported;

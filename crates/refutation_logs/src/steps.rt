@@ -22,7 +22,7 @@ use set_lists::NumSet;
 use std::alloc::Global;
 
 /// A log, and the atoms that its variables stand for.
-pub struct RefutationLog {
+pub(crate) struct RefutationLog {
     /// The steps.
     pub log: Log,
     /// The atom of each variable.
@@ -176,10 +176,10 @@ fn add_steps(
 }
 
 /// The log of a refutation whose steps stand, beside the side clauses of sets. Its steps are the refutation's, in
-/// order: axioms, sides, and derived steps with the hints by which the check takes them. The variables are the atoms of these
-/// by first appearance. `Memory` says that an allocation was refused, or that there are more steps than
+/// order: axioms, sides, and derived steps with the hints by which the check takes them. The variables are the atoms of
+/// these by first appearance. `Memory` says that an allocation was refused, or that there are more steps than
 /// [`hinted_log::MAX_STEPS`].
-pub fn log_of_refutation(
+pub(crate) fn log_of_refutation(
     alloc: Global,
     framework: &Framework,
     kind: SideKind,

@@ -60,7 +60,7 @@ fn write_log(alloc: Global, atoms: &AtomTable, log: &Log) -> Result<Exported, Me
 /// its hints up to the false one, and one without literals. The variables are the atoms of the steps by first
 /// appearance. `Memory` says that an allocation was refused, or that there are more steps than
 /// [`hinted_log::MAX_STEPS`] or more atoms than [`lrat_text::MAX_VARIABLE`].
-pub fn export_steps(
+pub(crate) fn export_steps(
     alloc: Global,
     framework: &Framework,
     kind: SideKind,
