@@ -166,6 +166,24 @@ impl Log {
         }
     }
 
+    /// Adds a clause that its hints show, which aren't checked again. `LogFull` comes exactly at a full log.
+    pub fn add_shown(&mut self, clause: &[Lit], hints: &[StepId]) -> Result<StepId, LogFault>
+        requires { Checks negation (clauses_of self.old.steps) clause.now hints.now (Ok (length hints.now)) }
+        ensures ok { IfOk result (AddsStep self.old self.new (derived_step clause.now hints.now)) }
+        ensures full { (result ≡ Err LogFault.LogFull) ↔ (length self.old.steps ≡ self.old.limit) }
+        ensures taken { (place : ℕ) → result ≢ Err (LogFault.Rejected place) }
+        ensures err { OnErr result (self.new ≡ self.old) }
+    {
+        if self.is_full() {
+            return Err(LogFault::LogFull);
+        }
+        make_room(&mut self.trail, clause)?;
+        pack_into(&mut self.packed, clause)?;
+        self.steps
+            .push(self.packed.as_slice(), StepKind::Derived, hints)?;
+        Ok(StepId::new(self.steps.len() as u32))
+    }
+
     /// Takes the last step away.
     pub fn take_back(&mut self)
         requires { 0 < length self.old.steps }

@@ -1,6 +1,6 @@
 -- The clauses of the propagator beside the steps of the log.
-use Rattle.std.proofs.Common.{◌≡◌, ℕ, ◌<◌, ◌+◌, ◌-◌, List, [], ◌∷◌, ◌++◌, length, get_or, take, map, arith, ap, sym}
-use Rattle.std.proofs.Common.{subst, ◌∙◌, refl, inl, inr, ⊎_elim, length-append, Ok, Err}
+use Rattle.std.proofs.Common.{◌≡◌, ℕ, ◌<◌, ◌+◌, ◌-◌, List, [], ◌∷◌, ◌++◌, length, get_or, map, arith, ap, sym}
+use Rattle.std.proofs.Common.{subst, ◌∙◌, refl, inl, inr, ⊎_elim, length-append, Ok}
 use Rattle.std.specs.Prelude.{Contains}
 use Rattle.std.specs.List.Sorted.{IsStrictlyIncreasing}
 use Rattle.std.proofs.Math.Seq.{get_or-append_seam}
@@ -11,9 +11,8 @@ use Rattle.plain_lits.specs.Literals.{negation}
 use Rattle.plain_lits.specs.HintCheck.{clause_at, IsNamed, Checks}
 use Rattle.plain_lits.specs.CheckLaws.{Renames, IsImage}
 use Rattle.plain_lits.proofs.HintCheckLemmas.{taken_sound}
-use Rattle.plain_lits.proofs.OneOutcome.{cases_lit, one_outcome}
 use Rattle.plain_lits.proofs.Renaming.{checks_moved}
-use Rattle.hinted_log.specs.Logs.{Step, LogState, IsStepOf, AddsStep, AddsDerived, clauses_of, no_step, derived_step}
+use Rattle.hinted_log.specs.Logs.{Step, LogState, IsStepOf, AddsStep, clauses_of, no_step, derived_step}
 use Rattle.hinted_log.proofs.Following.{clause_of_step, length-clauses_of}
 use Rattle.conflict_learn.specs.Learning.{AreUsed, ComesFromHints, IsLearned, IsNew}
 use Rattle.sat_core.specs.Solving.{SolverState, clause_of, Holds, IsShown, IsUnitOf, with_derived}
@@ -85,31 +84,6 @@ moved clauses active steps clause hints m w =
                 (clause_of_step steps (step_of active hint - 1) ∙ m.same hint named);
           };
     }) (Ok (length hints)) w
-
--- so the log doesn't reject it, and keeps all hints
-pub never_rejected : (steps : List Step) (clause : List Lit) (hints : List ℕ) (n place : ℕ)
-    → Checks negation (clauses_of steps) clause hints (Ok n)
-    → Checks negation (clauses_of steps) clause hints (Err place) → ⊥
-never_rejected steps clause hints n place w v =
-    let e = (one_outcome negation cases_lit (clauses_of steps) clause hints).one (Ok n) (Err place) w v in cc
-
-derived_with : (old new : LogState) (clause : List Lit) (hints : List ℕ) (used number : ℕ) → used ≡ length hints
-    → AddsStep old new (derived_step clause (take used hints)) number
-    → (new ≡ with_derived old clause hints) × (number ≡ length old.steps + 1)
-derived_with old new clause hints used number e a = (
-  a.new_log ∙ ap (λ hs. with_derived old clause hs) (ap (λ n. take n hints) e ∙ take_all (length hints) hints
-      (omega arith)),
-  a.next,
-)
-
-pub derived_all : (old new : LogState) (clause : List Lit) (hints : List ℕ) (number : ℕ)
-    → Checks negation (clauses_of old.steps) clause hints (Ok (length hints)) → AddsDerived old new clause hints number
-    → (new ≡ with_derived old clause hints) × (number ≡ length old.steps + 1)
-derived_all old new clause hints number w a =
-    let e = (one_outcome negation cases_lit (clauses_of old.steps) clause hints).one (Ok a.used) (Ok (length hints))
-    a.taken w in
-    let same : a.used ≡ length hints = cc in
-    derived_with old new clause hints a.used number same a.added
 
 -- what is learned beside the clauses is learned beside the steps
 pub shown_of : (s : SolverState) (clauses : List (List Lit)) (awake : List ℕ) (asleep : List Sleeper)
@@ -244,9 +218,10 @@ mirror_more clauses active steps step m =
     (mirror_grown clauses active steps step m)
     (step_new steps step (length steps + 1) refl) (clause_new steps step (length steps + 1) refl)
 
-pub derived_is : (old new : LogState) (clause : List Lit) (hints : List ℕ) (number : ℕ)
-    → Checks negation (clauses_of old.steps) clause hints (Ok (length hints)) → AddsDerived old new clause hints number
-    → IsDerived old new clause hints number
-derived_is old new clause hints number w a =
-    let h = derived_all old new clause hints number w a in
-    record { log_is = h.0; next = h.1 }
+-- a log with a step more that is shown
+pub derived_is : (old new : LogState) (given clause : List Lit) (hints : List ℕ) (number : ℕ) → given ≡ clause
+    → AddsStep old new (derived_step given hints) number → IsDerived old new clause hints number
+derived_is old new given clause hints number e a = record {
+  log_is = a.new_log ∙ ap (λ xs. with_derived old xs hints) e;
+  next = a.next;
+}

@@ -70,7 +70,7 @@ pub(crate) fn derive(log: &mut Log, clause: Clause, hints: &[StepId]) -> Result<
     ensures ok { IfOk result (IsDerived log.old log.new clause hints.now) }
     ensures err { OnErr result (log.new ≡ log.old) }
 {
-    match log.derive(clause, hints) {
+    match log.add_shown(clause.as_slice(), hints) {
         Ok(step) => Ok(step),
         Err(LogFault::Memory) => Err(Memory),
         Err(LogFault::LogFull) => unreachable!(),
