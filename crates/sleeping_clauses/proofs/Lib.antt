@@ -1,2 +1,3 @@
 pub mod Falsifying
 pub mod Mirroring
+pub mod Restricting

@@ -1,5 +1,5 @@
 -- Clauses beside the steps of a log.
-use Rattle.std.specs.Prelude.{◌≡◌, ℕ, ◌-◌, ◌<◌, List, length, slice_index, Contains}
+use Rattle.std.specs.Prelude.{◌≡◌, ◌⊎◌, ℕ, ◌-◌, ◌<◌, List, length, slice_index, Contains}
 use Rattle.plain_lits.specs.declared.lit.Lit.{Lit}
 use Rattle.plain_lits.specs.HintCheck.{clause_at, IsNamed}
 use Rattle.plain_lits.specs.Literals.{negation}
@@ -32,3 +32,22 @@ pub record FalsifiesAll (clause lits : List Lit) : Type 0 where
 -- each literal of a clause is within the known variables
 pub record HasRoom (s : Search) : Type 0 where
   pub known : (id : ℕ) (l : Lit) → IsNamed s.clauses id → Contains (clause_at s.clauses id) l → l.var < s.vars
+
+-- a clause holds a fixed literal
+abbrev pub IsSatisfiedBy : List Lit → List Lit → Type 0
+IsSatisfiedBy fixed clause = (l : Lit) × Contains clause l × Contains fixed l
+
+-- a clause without its literals that are false by fixed ones, and none of whose literals is fixed
+pub record IsRestriction (fixed part clause : List Lit) : Type 0 where
+  pub there : (l : Lit) → Contains part l → Contains clause l
+  pub back : (l : Lit) → Contains clause l → Contains part l ⊎ Contains fixed (negation l)
+  pub free : (l : Lit) → Contains part l → Contains fixed l ⊎ Contains fixed (negation l) → ⊥
+
+-- a clause with the literals that are false by fixed ones of the clauses of hints
+pub record IsWhole (fixed : List Lit) (clauses : List (List Lit)) (hints : List ℕ) (part whole : List Lit)
+    : Type 0 where
+  pub there : (l : Lit) → Contains part l → Contains whole l
+  pub back : (l : Lit) → Contains whole l → Contains part l ⊎ (Contains fixed (negation l)
+      × ((hint : ℕ) × Contains hints hint × Contains (clause_at clauses hint) l))
+  pub rest : (hint : ℕ) (l : Lit) → Contains hints hint → Contains (clause_at clauses hint) l
+      → Contains fixed (negation l) → Contains whole l

@@ -4,8 +4,10 @@
 
 pub mod loading;
 pub mod pace;
+pub mod restriction;
 pub mod sleepers;
 
 pub use loading::{Loaded, load, push_levels, unpacked};
 pub use pace::{Pace, levels_of};
+pub use restriction::restricted;
 pub use sleepers::{Sleeper, bar_of, counts_of, first_falsified_sleeper, is_falsified, sleeper_at};
