@@ -1,3 +1,4 @@
 pub mod Falsifying
 pub mod Mirroring
 pub mod Restricting
+pub mod Wholeness

@@ -1,5 +1,5 @@
 -- Clauses beside the steps of a log.
-use Rattle.std.specs.Prelude.{◌≡◌, ◌⊎◌, ℕ, ◌-◌, ◌<◌, List, length, slice_index, Contains}
+use Rattle.std.specs.Prelude.{◌≡◌, ◌⊎◌, ℕ, ◌-◌, ◌<◌, List, [], ◌∷◌, ◌++◌, length, slice_index, Contains}
 use Rattle.plain_lits.specs.declared.lit.Lit.{Lit}
 use Rattle.plain_lits.specs.HintCheck.{clause_at, IsNamed}
 use Rattle.plain_lits.specs.Literals.{negation}
@@ -51,3 +51,18 @@ pub record IsWhole (fixed : List Lit) (clauses : List (List Lit)) (hints : List 
       × ((hint : ℕ) × Contains hints hint × Contains (clause_at clauses hint) l))
   pub rest : (hint : ℕ) (l : Lit) → Contains hints hint → Contains (clause_at clauses hint) l
       → Contains fixed (negation l) → Contains whole l
+
+-- the literals of the clauses of steps, one after the other
+abbrev pub lits_of : List Step → List ℕ → List Lit
+lits_of steps [] = []
+lits_of steps (number ∷ numbers) = clause_of steps number ++ lits_of steps numbers
+
+-- a clause grows by those of given literals that fixed ones make false, from a part none of whose literals is fixed;
+-- just the negations of its literals are true
+pub record IsGathered (fixed given part whole truths : List Lit) : Type 0 where
+  pub plain : (l : Lit) → Contains fixed l → Contains fixed (negation l) → ⊥
+  pub free : (l : Lit) → Contains part l → Contains fixed l ⊎ Contains fixed (negation l) → ⊥
+  pub there : (l : Lit) → Contains part l → Contains whole l
+  pub back : (l : Lit) → Contains whole l → Contains part l ⊎ (Contains fixed (negation l) × Contains given l)
+  pub rest : (l : Lit) → Contains given l → Contains fixed (negation l) → Contains whole l
+  pub falsified : FalsifiesAll whole truths

@@ -2,11 +2,13 @@
 //! look for one of them. What is chosen, and when, is advice.
 #![tactic(auto)]
 
+pub mod gathering;
 pub mod loading;
 pub mod pace;
 pub mod restriction;
 pub mod sleepers;
 
+pub use gathering::gather;
 pub use loading::{Loaded, load, push_levels, unpacked};
 pub use pace::{Pace, levels_of};
 pub use restriction::restricted;
