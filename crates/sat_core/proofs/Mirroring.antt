@@ -1,7 +1,7 @@
 -- The clauses of the propagator beside the steps of the log.
 use Rattle.std.proofs.Common.{◌≡◌, ℕ, ◌<◌, ◌+◌, ◌-◌, List, [], ◌∷◌, ◌++◌, length, get_or, map, arith, ap, sym}
 use Rattle.std.proofs.Common.{subst, ◌∙◌, refl, inl, inr, ⊎_elim, length-append, Ok}
-use Rattle.std.specs.Prelude.{Contains}
+use Rattle.std.specs.Prelude.{Contains, ◌⊎◌}
 use Rattle.std.specs.List.Sorted.{IsStrictlyIncreasing}
 use Rattle.std.proofs.Math.Seq.{get_or-append_seam}
 use Rattle.std.proofs.lemmas.List.{get_or_default, get_or_append_left, take_all, length-map}
@@ -21,6 +21,8 @@ use Rattle.sleeping_clauses.specs.Sleeping.{HasNoSubsumingSleeper}
 use Rattle.sleeping_clauses.specs.declared.sleepers.Sleeper.{Sleeper}
 use Rattle.sleeping_clauses.specs.Steps.{step_of, IsMirror}
 use Rattle.lists.proofs.Images.{image_there, image_from}
+use Rattle.sleeping_clauses.specs.Steps.{IsRestriction, IsWhole}
+use Rattle.sleeping_clauses.proofs.Restricting.{checks_whole}
 use Rattle.sleeping_clauses.proofs.Mirroring.{mirror_pushed}
 
 -- the id of a step in use
@@ -119,6 +121,63 @@ shown_of s clauses awake asleep clause hints share w used from =
             image_there to hints o.0 o.1,
             subst (λ xs. Contains xs l) (sym (m.same o.0 (named o.0 o.1))) o.2,
           );
+    }
+
+-- a part that comes from restricted clauses holds no fixed literal
+pub part_free : (fixed : List Lit) (parts clauses : List (List Lit)) (to : ℕ → ℕ) (part : List Lit) (hints : List ℕ)
+    → ((id : ℕ) → Contains hints id → IsRestriction fixed (clause_at parts id) (clause_at clauses (to id)))
+    → ComesFromHints parts part hints
+    → (l : Lit) → Contains part l → Contains fixed l ⊎ Contains fixed (negation l) → ⊥
+part_free fixed parts clauses to part hints restricts from l c =
+    let w = from.each l c in (restricts w.0 w.1).free l w.2
+
+-- what is learned beside restricted clauses is, with what its hints have beyond, learned beside the steps
+pub shown_whole : (s : SolverState) (fixed : List Lit) (parts : List (List Lit)) (awake : List ℕ)
+    (part whole : List Lit) (hints : List ℕ)
+    → ((l : Lit) → Contains fixed l → Contains fixed (negation l) → ⊥)
+    → ((id : ℕ) → IsNamed parts id → IsStepOf s.log.steps (step_of awake id))
+    → ((id : ℕ) → IsNamed parts id → Contains s.active (step_of awake id))
+    → ((id : ℕ) → IsNamed parts id
+    → IsRestriction fixed (clause_at parts id) (clause_at (clauses_of s.log.steps) (step_of awake id)))
+    → Checks negation parts part hints (Ok (length hints)) → AreUsed parts part hints
+    → ComesFromHints parts part hints → IsWhole fixed (clauses_of s.log.steps) (map (step_of awake) hints) part whole
+    → IsShown s whole (map (step_of awake) hints)
+shown_whole s fixed parts awake part whole hints plain steps active restricts checks used from w =
+    let to = step_of awake in
+    let clauses = clauses_of s.log.steps in
+    let named : (h : ℕ) → Contains hints h → IsNamed parts h = λ h c. hints_named parts part hints h checks c in
+    let at : (n : ℕ) → clause_at clauses n ≡ clause_of s.log.steps n = λ n. clause_of_step s.log.steps (n - 1) in
+    record {
+      taken = subst (λ n. Checks negation clauses whole (map to hints) (Ok n)) (sym (length-map hints to))
+          (checks_whole fixed parts clauses to part whole hints (length hints) plain
+          (part_free fixed parts clauses to part hints (λ id c. restricts id (named id c)) from)
+          (λ hint c. (λ n. named_step s.log.steps (to hint) (steps hint n), restricts hint)) w checks);
+      in_use = λ hint c.
+          let h = image_from to hints hint c in subst (Contains s.active) h.2 (active h.0 (named h.0 h.1));
+      used = λ hint l c there.
+          let h = image_from to hints hint c in
+          let here : Contains (clause_at clauses (to h.0)) l = subst (λ xs. Contains xs l) (sym (at (to h.0)))
+          (subst (λ n. Contains (clause_of s.log.steps n) l) (sym h.2) there) in
+          ⊎_elim
+          (λ p. ⊎_elim (λ held. inl (w.there l held))
+          (λ o. inr (
+            to o.0,
+            image_there to hints o.0 o.1,
+            subst (λ xs. Contains xs (negation l)) (at (to o.0))
+                ((restricts o.0 (named o.0 o.1)).there (negation l) o.2),
+          ))
+          (used.each h.0 l h.1 p))
+          (λ fact. inl (w.rest (to h.0) l (image_there to hints h.0 h.1) here fact))
+          ((restricts h.0 (named h.0 h.1)).back l here);
+      from_hints = λ l c. ⊎_elim
+          (λ p.
+          let o = from.each l p in (
+            to o.0,
+            image_there to hints o.0 o.1,
+            subst (λ xs. Contains xs l) (at (to o.0)) ((restricts o.0 (named o.0 o.1)).there l o.2),
+          ))
+          (λ f. let x = f.1 in (x.0, x.1, subst (λ xs. Contains xs l) (at x.0) x.2))
+          (w.back l c);
     }
 
 -- a clause that is new to the clauses and holds that of no sleeper is new to the steps in use
