@@ -21,8 +21,8 @@ use Rattle.sleeping_clauses.specs.Sleeping.{HasNoSubsumingSleeper}
 use Rattle.sleeping_clauses.specs.declared.sleepers.Sleeper.{Sleeper}
 use Rattle.sleeping_clauses.specs.Steps.{step_of, IsMirror}
 use Rattle.lists.proofs.Images.{image_there, image_from}
-use Rattle.sleeping_clauses.specs.Steps.{IsRestriction, IsWhole}
-use Rattle.sleeping_clauses.proofs.Restricting.{checks_whole}
+use Rattle.sleeping_clauses.specs.Steps.{IsRestriction, IsSatisfiedBy, IsWhole}
+use Rattle.sleeping_clauses.proofs.Restricting.{checks_whole, part_held, none_satisfied}
 use Rattle.sleeping_clauses.proofs.Mirroring.{mirror_pushed}
 
 -- the id of a step in use
@@ -179,6 +179,23 @@ shown_whole s fixed parts awake part whole hints plain steps active restricts ch
           (λ f. let x = f.1 in (x.0, x.1, subst (λ xs. Contains xs l) (at x.0) x.2))
           (w.back l c);
     }
+
+-- a whole clause whose part is new to the restricted clauses holds that of no step among them
+pub none_held : (fixed : List Lit) (parts : List (List Lit)) (steps : List Step) (hints : List ℕ)
+    (part whole : List Lit) (id number : ℕ) → IsWhole fixed (clauses_of steps) hints part whole → IsNew parts part
+    → IsNamed parts id → IsRestriction fixed (clause_at parts id) (clause_of steps number)
+    → Holds whole (clause_of steps number) → ⊥
+none_held fixed parts steps hints part whole id number w new named r h = new.holds_none id named
+    (part_held fixed (clauses_of steps) hints part whole (clause_at parts id) (clause_of steps number) w r h.each)
+
+-- nor that of a step that a fixed literal makes true
+pub none_true : (fixed : List Lit) (steps : List Step) (hints : List ℕ) (part whole : List Lit) (number : ℕ)
+    → ((l : Lit) → Contains fixed l → Contains fixed (negation l) → ⊥)
+    → ((l : Lit) → Contains part l → Contains fixed l ⊎ Contains fixed (negation l) → ⊥)
+    → IsWhole fixed (clauses_of steps) hints part whole → IsSatisfiedBy fixed (clause_of steps number)
+    → Holds whole (clause_of steps number) → ⊥
+none_true fixed steps hints part whole number plain free w s h =
+    none_satisfied fixed (clauses_of steps) hints part whole (clause_of steps number) plain free w s h.each
 
 -- a clause that is new to the clauses and holds that of no sleeper is new to the steps in use
 holds_none_of : (s : SolverState) (clauses : List (List Lit)) (awake : List ℕ) (asleep : List Sleeper)

@@ -41,8 +41,8 @@ pub gathered_skip : (fixed given part whole truths : List Lit) (x : Lit) (v : Va
 gathered_skip fixed given part whole truths x v value ne h =
     gathered_past fixed given part whole truths x (λ c. absurd (not_fact fixed x v value ne c)) h
 
-there_already : (fixed given part whole truths : List Lit) (x : Lit) (v : Value) → IsGathered fixed given part whole truths
-    → Contains fixed (negation x) → IsValueIn truths x v → v ≢ Unset → Contains whole x
+there_already : (fixed given part whole truths : List Lit) (x : Lit) (v : Value)
+    → IsGathered fixed given part whole truths → Contains fixed (negation x) → IsValueIn truths x v → v ≢ Unset → Contains whole x
 there_already fixed given part whole truths x False h fact value ne = h.falsified.back x value.0
 there_already fixed given part whole truths x Unset h fact value ne = absurd (ne refl)
 there_already fixed given part whole truths x True h fact value ne =

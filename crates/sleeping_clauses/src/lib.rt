@@ -1,5 +1,5 @@
-//! Learned clauses that a search leaves out for now: which fall asleep, a propagator that is built without them, and the
-//! look for one of them. What is chosen, and when, is advice.
+//! Learned clauses that a search leaves out for now: which fall asleep, a propagator that is built without them, and
+//! the look for one of them. What is chosen, and when, is advice.
 #![tactic(auto)]
 
 pub mod gathering;
