@@ -480,33 +480,12 @@ impl SolverParts {
     {
         match self.refute_near::<E>(alloc, plain, goals) {
             Ok(Some(step)) => Ok(Searched::Refuted(step)),
-            Ok(None) => self.search_all::<E>(alloc, plain, goals, budget),
+            Ok(None) => {
+                self.assume::<E>(plain, goals)?;
+                self.search_assumed(alloc, budget)
+            }
             Err(_) => Err(Halt::Memory),
         }
-    }
-
-    /// Searches under all facts and goals.
-    fn search_all<E: Encoding>(
-        &mut self,
-        alloc: Global,
-        plain: &E::Plain,
-        goals: &[AtomLit],
-        budget: &mut Budget,
-    ) -> Result<Searched, Halt>
-        requires whole { IsWhole self.old }
-        requires plain { IsTautology negated goals.now → ⊥ }
-        requires unfixed { AreUnfixed (E.framework plain.now) goals.now }
-        ensures whole { IsWhole self.new }
-        ensures answer { IsGuardedLog (E.framework plain.now) (state_of self.old).log
-            → IfOk result (IsAnswer (E.framework plain.now) (state_of self.new).log goals.now) }
-        ensures run { HasRun NoSide (ends_in result) (E.framework plain.now) (state_of self.old).log
-            (state_of self.new).log self.new.pending budget.old budget.new (halt_of result) }
-        ensures learns { UnlessMemory (halt_of result) (LearnsClauses (state_of self.old).log (state_of self.new).log) }
-        ensures in_hand { (count : ℕ) → result ≡ Err (Halt.Spent count) → IsNoLoop self.new.pending }
-        ensures log { StaysLog (state_of self.old).log (state_of self.new).log }
-    {
-        self.assume::<E>(plain, goals)?;
-        self.search_assumed(alloc, budget)
     }
 
     /// The number of the side clause with these literals, if there is one.
