@@ -169,7 +169,8 @@ module _ (values : List AtomLit) (plain : IsTautology negated values → ⊥) wh
   opposite : IsValuation negated (lit_value affirms)
   opposite l = opposite_of l.atom l.positive
 
--- a clause that is false under the values is taken by no hints that searches use, since the values make each of these true
+-- a clause that is false under the values is taken by no hints that searches use, since the values make each of these
+-- true
 module _ (f : Framework) (log : OracleLog) (goals values : List AtomLit) (name : AxiomName)
     (ok : Satisfies f log goals values) (lacks : IsNewLoop f values name) where
   hint_true : (hint : ℕ) → IsNamed (clauses_of log.steps) hint → (step_at log.steps hint).closing ≡ false

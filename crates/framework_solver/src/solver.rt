@@ -37,10 +37,11 @@ use plain_lits::{Budget, Halt};
 use set_lists::NumSet;
 use std::alloc::Global;
 
-/// A kept solver for one framework: the framework with its members, the solver over atoms, the axioms that the framework
-/// needs with the number of those that the solver has already, and the names of the first steps, by which an axiom comes
-/// once at most. Each call needs a whole solver (`IsWhole`) and leaves one, whatever it answers. After `Memory` the log may
-/// have some of the call's steps; `LogFull` comes at a full log alone, and `Spent` when a further unit is in hand.
+/// A kept solver for one framework: the framework with its members, the solver over atoms, the axioms that the
+/// framework needs with the number of those that the solver has already, and the names of the first steps, by which an
+/// axiom comes once at most. Each call needs a whole solver (`IsWhole`) and leaves one, whatever it answers. After
+/// `Memory` the log may have some of the call's steps; `LogFull` comes at a full log alone, and `Spent` when a further
+/// unit is in hand.
 #[derive(Drop)]
 pub struct FrameworkSolver {
     pub framework: Framework,
@@ -94,8 +95,8 @@ impl FrameworkSolver {
         Ok(())
     }
 
-    /// Hands the listed axioms to the solver, of which the log has none, since it has no step. It looks at no names, so it
-    /// is the quick way.
+    /// Hands the listed axioms to the solver, of which the log has none, since it has no step. It looks at no names, so
+    /// it is the quick way.
     fn add_all(&mut self, alloc: Global) -> Result<(), Halt>
         requires whole { IsWhole self.old }
         requires is_listed { self.old.is_listed ≡ true }
@@ -355,8 +356,8 @@ impl FrameworkSolver {
         }
     }
 
-    /// A set that makes each goal true, or a step that refutes the goals. A model that lacks a loop clause is no answer:
-    /// the search goes on with that clause.
+    /// A set that makes each goal true, or a step that refutes the goals. A model that lacks a loop clause is no
+    /// answer: the search goes on with that clause.
     pub fn find(
         &mut self,
         alloc: Global,
@@ -383,9 +384,9 @@ impl FrameworkSolver {
         }
     }
 
-    /// Behind a call that ended so, forgets the clause in hand unless the budget was spent, and raises the flag where memory
-    /// was refused.
-    fn settle(&mut self, halt: Option<Halt>, out_of_memory: &mut bool)
+    /// Behind a call that ended so, forgets the clause in hand unless the budget was spent, and raises the flag where
+    /// memory was refused.
+    fn note_end(&mut self, halt: Option<Halt>, out_of_memory: &mut bool)
         ensures parts { self.new ≡ record self.old {
           solver = record {
             log = self.old.solver.log;
@@ -406,8 +407,8 @@ impl FrameworkSolver {
         }
     }
 
-    /// As `find`; behind it a clause is in hand only where the budget was spent, and the flag is raised where memory was
-    /// refused.
+    /// As `find`; behind it a clause is in hand only where the budget was spent, and the flag is raised where memory
+    /// was refused.
     pub fn find_settled(
         &mut self,
         alloc: Global,
@@ -428,12 +429,12 @@ impl FrameworkSolver {
         ensures in_hand { LoopInHand self.new.solver.log self.new.solver.pending }
     {
         let end = self.find(alloc, goals, budget);
-        self.settle(halt_in(&end), out_of_memory);
+        self.note_end(halt_in(&end), out_of_memory);
         end
     }
 
-    /// As `oblige`; behind it a clause is in hand only where the budget was spent, and the flag is raised where memory was
-    /// refused.
+    /// As `oblige`; behind it a clause is in hand only where the budget was spent, and the flag is raised where memory
+    /// was refused.
     pub fn oblige_settled(
         &mut self,
         alloc: Global,
@@ -455,7 +456,7 @@ impl FrameworkSolver {
         ensures in_hand { LoopInHand self.new.solver.log self.new.solver.pending }
     {
         let end = self.oblige(alloc, side, from, budget);
-        self.settle(halt_in(&end), out_of_memory);
+        self.note_end(halt_in(&end), out_of_memory);
         end
     }
 }

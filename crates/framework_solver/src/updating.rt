@@ -79,8 +79,8 @@ fn changed_of(alloc: Global, after: &Framework, effect: &Effect) -> Result<Items
     }
 }
 
-/// The axioms that a log may lack behind an edit. Where it had all that the framework needed before the edit, these are the
-/// ones that the edit calls for, found without a walk over the framework.
+/// The axioms that a log may lack behind an edit. Where it had all that the framework needed before the edit, these are
+/// the ones that the edit calls for, found without a walk over the framework.
 fn lacking_axioms(
     alloc: Global,
     after: &Framework,
@@ -115,8 +115,8 @@ impl FrameworkSolver {
         self.is_listed && self.taken == self.needed.len()
     }
 
-    /// Changes the framework in place by an attack that comes or goes; the axioms that the log may lack wait then. Where
-    /// memory is refused, either nothing has changed, or all axioms of the edited framework wait.
+    /// Changes the framework in place by an attack that comes or goes; the axioms that the log may lack wait then.
+    /// Where memory is refused, either nothing has changed, or all axioms of the edited framework wait.
     fn follow_attack(&mut self, alloc: Global, effect: &Effect) -> Result<(), Memory>
         requires whole { IsWhole self.old }
         requires taken { IsTaken (framework_of self.old.framework) effect.now.edit effect.now }
@@ -167,8 +167,8 @@ impl FrameworkSolver {
         Ok(())
     }
 
-    /// Changes the framework by an edit that it takes; the axioms that the log may lack wait then. Where memory is refused,
-    /// either nothing has changed, or all axioms of the edited framework wait.
+    /// Changes the framework by an edit that it takes; the axioms that the log may lack wait then. Where memory is
+    /// refused, either nothing has changed, or all axioms of the edited framework wait.
     fn follow(&mut self, alloc: Global, effect: &Effect) -> Result<(), Memory>
         requires whole { IsWhole self.old }
         requires taken { IsTaken (framework_of self.old.framework) effect.now.edit effect.now }

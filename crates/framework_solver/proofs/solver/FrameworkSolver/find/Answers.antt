@@ -81,7 +81,8 @@ returns-in_err-found-clause-steps c =
     let first = c.args.self.now in
     let next = c.turn.new.self in
     handed_on (λ halt. UnlessMemory halt ((own : ℕ) → GoesOnBySteps (framework_of first.framework) own []
-    first.solver.log next.solver.log)) c.from_residual-in_err-found.result c.in_err-found.field-0.0 c.from_residual-in_err-found.ensures
+    first.solver.log next.solver.log)) c.from_residual-in_err-found.result c.in_err-found.field-0.0
+    c.from_residual-in_err-found.ensures
     (turned_steps first c.models.self next c.args.budget.now c.models.budget c.turn.new.budget c.models.invariant
     c.in_err-found.ensures.framework (Some c.in_err-found.field-0.0) c.in_err-found.ensures.steps)
 

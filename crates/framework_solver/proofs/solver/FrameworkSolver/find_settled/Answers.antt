@@ -13,20 +13,20 @@ use Rattle.framework_solver.proofs.solver.FrameworkSolver.find_settled.Goals as 
 pub returns-clause-whole : goal.returns-clause-whole
 returns-clause-whole c =
     let q = c.find-end.new.self in
-    let is = c.settle.ensures.parts ∙ ap (settled q) c.halt_in.ensures in
+    let is = c.note_end.ensures.parts ∙ ap (settled q) c.halt_in.ensures in
     subst IsWhole (sym is) (whole_settled q (halt_of c.find-end.result) c.find-end.ensures.whole)
 
 pub returns-clause-framework : goal.returns-clause-framework
 returns-clause-framework c =
     let q = c.find-end.new.self in
-    let is = c.settle.ensures.parts ∙ ap (settled q) c.halt_in.ensures in
+    let is = c.note_end.ensures.parts ∙ ap (settled q) c.halt_in.ensures in
     ap (λ (r : FrameworkSolver). r.framework) is ∙ c.find-end.ensures.framework
 
 pub returns-clause-found : goal.returns-clause-found
 returns-clause-found c =
     let p = c.args.self.now in
     let q = c.find-end.new.self in
-    let is = c.settle.ensures.parts ∙ ap (settled q) c.halt_in.ensures in
+    let is = c.note_end.ensures.parts ∙ ap (settled q) c.halt_in.ensures in
     subst (λ (r : FrameworkSolver). IfOk c.find-end.result (IsFound (framework_of p.framework) r.solver.log
     c.args.goals.now)) (sym is)
     c.find-end.ensures.found
@@ -35,7 +35,7 @@ pub returns-clause-run : goal.returns-clause-run
 returns-clause-run c =
     let p = c.args.self.now in
     let q = c.find-end.new.self in
-    let is = c.settle.ensures.parts ∙ ap (settled q) c.halt_in.ensures in
+    let is = c.note_end.ensures.parts ∙ ap (settled q) c.halt_in.ensures in
     let f = framework_of p.framework in
     let halt = halt_of c.find-end.result in
     subst (λ (r : FrameworkSolver). HasRun NoSide (closes c.find-end.result) f p.solver.log r.solver.log
@@ -48,7 +48,7 @@ returns-clause-run c =
 
 pub returns-clause-kept : goal.returns-clause-kept
 returns-clause-kept c = λ so.
-    let flag = sym (c.settle.ensures.out_of_memory ∙ ap (λ h. out_of_memory_by h c.args.out_of_memory.now)
+    let flag = sym (c.note_end.ensures.out_of_memory ∙ ap (λ h. out_of_memory_by h c.args.out_of_memory.now)
     c.halt_in.ensures) in
     not_out_of_memory (halt_of c.find-end.result) c.args.out_of_memory.now (flag ∙ so)
 
@@ -56,8 +56,8 @@ pub returns-clause-steps : goal.returns-clause-steps
 returns-clause-steps c = λ so own.
     let p = c.args.self.now in
     let q = c.find-end.new.self in
-    let is = c.settle.ensures.parts ∙ ap (settled q) c.halt_in.ensures in
-    let flag = sym (c.settle.ensures.out_of_memory ∙ ap (λ h. out_of_memory_by h c.args.out_of_memory.now)
+    let is = c.note_end.ensures.parts ∙ ap (settled q) c.halt_in.ensures in
+    let flag = sym (c.note_end.ensures.out_of_memory ∙ ap (λ h. out_of_memory_by h c.args.out_of_memory.now)
     c.halt_in.ensures) in
     let f = framework_of p.framework in
     subst (λ (r : FrameworkSolver). GoesOnBySteps f own [] p.solver.log r.solver.log) (sym is)
@@ -68,6 +68,6 @@ returns-clause-steps c = λ so own.
 pub returns-clause-in_hand : goal.returns-clause-in_hand
 returns-clause-in_hand c =
     let q = c.find-end.new.self in
-    let is = c.settle.ensures.parts ∙ ap (settled q) c.halt_in.ensures in
+    let is = c.note_end.ensures.parts ∙ ap (settled q) c.halt_in.ensures in
     subst (λ (r : FrameworkSolver). LoopInHand r.solver.log r.solver.pending) (sym is)
     (settled_in_hand q.solver.log q.solver.pending (halt_of c.find-end.result) c.find-end.ensures.in_hand)
