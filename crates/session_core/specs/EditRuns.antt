@@ -15,8 +15,8 @@ abbrev pub added_by : ℕ → Edit → Body → List HistoryEntry
 added_by s edit (Done effect) = record { session = s; edit = edit } ∷ []
 added_by s edit body = []
 
--- in each state of the core that has the history which the edit found, the edit is a run of the core: one turn, at which
--- its entry comes where the reply says that it was taken, and none where it was refused or the history is full
+-- in each state of the core that has the history which the edit found, the edit is a run of the core: one turn, at
+-- which its entry comes where the reply says that it was taken, and none where it was refused or the history is full
 abbrev pub EditsAreRuns : Type 0
 EditsAreRuns = (f : Framework) (limit s : ℕ) (edit : Edit) (before now : List HistoryEntry) (reply : Reply)
     (core : Core) → IsEditReply limit f s edit before now reply → core.opening ≡ f → core.limit ≡ limit

@@ -26,7 +26,7 @@ seen_by session = list_of session.seat
 -- many as it has followed
 abbrev pub Follows : Hub → Session → Type 0
 Follows hub session =
-    session.lost ≡ false → HasFollowed (start_of hub) (seen_by session) session.followed session.engine
+    session.out_of_memory ≡ false → HasFollowed (start_of hub) (seen_by session) session.followed session.engine
 
 -- the session follows each hub that began with the framework
 abbrev pub FollowsFrom : Framework → Session → Type 0

@@ -34,7 +34,7 @@ impl Session {
         ensures numbers { (self.new.number ≡ self.old.number) × (self.new.engine.number ≡ self.old.engine.number) }
         ensures answers { self.new.answers ≡ self.old.answers }
         ensures taken { self.new.taken ≡ self.old.taken }
-        ensures lost { self.new.lost ≡ self.old.lost }
+        ensures out_of_memory { self.new.out_of_memory ≡ self.old.out_of_memory }
     {
         let Fresh { entries, front } = hub.refresh(rt, alloc, &mut self.seat, self.followed)?;
         follow(alloc, &mut self.engine, entries.as_slice())?;
@@ -60,7 +60,7 @@ impl Session {
         ensures pooled { TakesMore pool.now self.old self.new }
         ensures seat { self.new.seat ≡ self.old.seat }
         ensures followed { self.new.followed ≡ self.old.followed }
-        ensures lost { self.new.lost ≡ self.old.lost }
+        ensures out_of_memory { self.new.out_of_memory ≡ self.old.out_of_memory }
     {
         self.answers.reserve(1)?;
         let trade = PoolTrade::new(rt, alloc, pool, self.taken);
@@ -90,7 +90,7 @@ impl Session {
         ensures numbers { (self.new.number ≡ self.old.number) × (self.new.engine.number ≡ self.old.engine.number) }
         ensures answers { OnErr result (self.new.answers.items ≡ self.old.answers.items) }
         ensures pooled { TakesMore pool.now self.old self.new }
-        ensures lost { self.new.lost ≡ self.old.lost }
+        ensures out_of_memory { self.new.out_of_memory ≡ self.old.out_of_memory }
     {
         let front = self.catch_up(rt, alloc, hub)?;
         pace.at(self.number, Point::InAsk);
@@ -101,9 +101,9 @@ impl Session {
     /// Answers a query by at most so many units of new clauses. The session sees the whole history at one turn, and the
     /// reply is about the framework after it; its front is the history's length then. Others may edit meanwhile, since
     /// nothing is locked while the query is answered. Before each search the engine takes in what others share through
-    /// the pool, where it may come in. Each step of the log stands beside those before it, be it one's own or taken from
-    /// another's entry: what came so, and each axiom that the framework doesn't need, is of entries that the pool gave,
-    /// of which the tokens are kept. `Unknown` comes only where the units were spent on clauses that
+    /// the pool, where it may come in. Each step of the log stands beside those before it, be it one's own or taken
+    /// from another's entry: what came so, and each axiom that the framework doesn't need, is of entries that the pool
+    /// gave, of which the tokens are kept. `Unknown` comes only where the units were spent on clauses that
     /// were new and serve the query and a further one was in hand, `LogFull` only where the log is full, neither where
     /// the grounded set answers; `TooMany` where there are more than [`MAX_EXTENSIONS`](semantics::MAX_EXTENSIONS)
     /// extensions to list. After `Memory` the session answers nothing any more.
@@ -120,7 +120,7 @@ impl Session {
         requires seat { IsSeatAt hub.now self.old.seat }
         requires follows { Follows hub.now self.old }
         ensures seat { IsSeatAt hub.now self.new.seat × (number_of self.new.seat ≡ number_of self.old.seat) }
-        ensures later { self.old.lost ≡ false → turns_of self.old.seat < turns_of self.new.seat }
+        ensures later { self.old.out_of_memory ≡ false → turns_of self.old.seat < turns_of self.new.seat }
         ensures gained { GainsOthers (number_of self.old.seat) (seen_by self.old) (seen_by self.new) }
         ensures ok { IfOk result (IsAsked hub.now query.now limit self.old self.new) }
         ensures grows { Grows AnySide self.old.engine.log self.new.engine.log }
@@ -129,11 +129,11 @@ impl Session {
         ensures pooled { TakesMore pool.now self.old self.new }
         ensures follows { Follows hub.now self.new }
         ensures stands { IsKept self.new.engine.framework self.new.engine.log }
-        ensures kept { OnOk result (self.new.lost ≡ false) }
-        ensures lost { OnErr result (self.new.lost ≡ true) }
-        ensures still_lost { self.old.lost ≡ true → IsErr result × (self.new ≡ self.old) }
+        ensures kept { OnOk result (self.new.out_of_memory ≡ false) }
+        ensures out_of_memory { OnErr result (self.new.out_of_memory ≡ true) }
+        ensures still_out_of_memory { self.old.out_of_memory ≡ true → IsErr result × (self.new ≡ self.old) }
     {
-        if self.lost {
+        if self.out_of_memory {
             let _stands = self.engine.members();
             return Err(Memory);
         }
@@ -142,7 +142,7 @@ impl Session {
         match told {
             Ok(reply) => Ok(reply),
             Err(_) => {
-                self.lost = true;
+                self.out_of_memory = true;
                 Err(Memory)
             }
         }

@@ -28,22 +28,22 @@ impl Session {
     ) -> Result<Reply, Memory>
         requires { IsSeatAt hub.now self.old.seat }
         ensures seat { IsSeatAt hub.now self.new.seat × (number_of self.new.seat ≡ number_of self.old.seat) }
-        ensures later { self.old.lost ≡ false → turns_of self.old.seat < turns_of self.new.seat }
+        ensures later { self.old.out_of_memory ≡ false → turns_of self.old.seat < turns_of self.new.seat }
         ensures longer { IsPrefix (seen_by self.old) (seen_by self.new) }
         ensures ok { IfOk result (IsEditReply (limit_of hub.now) (start_of hub.now) (number_of self.old.seat) edit
             (seen_by self.old) (seen_by self.new)) }
-        ensures room { self.old.lost ≡ false → OnErr result (length (seen_by self.new) < limit_of hub.now) }
+        ensures room { self.old.out_of_memory ≡ false → OnErr result (length (seen_by self.new) < limit_of hub.now) }
         ensures number { self.new.number ≡ self.old.number }
         ensures engine { self.new.engine ≡ self.old.engine }
         ensures followed { self.new.followed ≡ self.old.followed }
         ensures answers { self.new.answers ≡ self.old.answers }
         ensures taken { self.new.taken ≡ self.old.taken }
         ensures follows { Follows hub.now self.old → Follows hub.now self.new }
-        ensures kept { OnOk result (self.new.lost ≡ false) }
-        ensures lost { OnErr result (self.new.lost ≡ true) }
-        ensures still_lost { self.old.lost ≡ true → IsErr result × (self.new ≡ self.old) }
+        ensures kept { OnOk result (self.new.out_of_memory ≡ false) }
+        ensures out_of_memory { OnErr result (self.new.out_of_memory ≡ true) }
+        ensures still_out_of_memory { self.old.out_of_memory ≡ true → IsErr result × (self.new ≡ self.old) }
     {
-        if self.lost {
+        if self.out_of_memory {
             return Err(Memory);
         }
         match hub.commit(rt, alloc, &mut self.seat, edit) {
@@ -60,7 +60,7 @@ impl Session {
                 body: Body::Full,
             }),
             Err(CommitFault::Memory) => {
-                self.lost = true;
+                self.out_of_memory = true;
                 Err(Memory)
             }
         }

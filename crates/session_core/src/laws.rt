@@ -15,14 +15,14 @@ pub fn replies_stay_readable()
     ensures { ReadableStays }
 {}
 
-/// A query is a run of the core: a refresh, steps of the session's own log, and the answer that the reply tells. A reply
-/// that there are too many extensions doesn't tell them: the answer then tells some that the log shows.
+/// A query is a run of the core: a refresh, steps of the session's own log, and the answer that the reply tells. A
+/// reply that there are too many extensions doesn't tell them: the answer then tells some that the log shows.
 pub fn asks_are_runs()
     ensures { AsksAreRuns }
 {}
 
-/// The entry that a session hands over for a step of its log is one that the core shares for this step, at each index of
-/// the pool that is empty.
+/// The entry that a session hands over for a step of its log is one that the core shares for this step, at each index
+/// of the pool that is empty.
 pub fn shares_are_runs()
     ensures { SharesAreRuns }
 {}

@@ -24,7 +24,7 @@ pub struct Session {
     pub(crate) followed: u64,
     pub(crate) taken: u64,
     pub(crate) answers: Vec<KeptAnswer>,
-    pub(crate) lost: bool,
+    pub(crate) out_of_memory: bool,
 }
 
 // By hand, so that a drop is one call (docs/PROVING.md).
@@ -37,7 +37,7 @@ impl Drop for Session {
             followed: _,
             taken: _,
             answers: _,
-            lost: _,
+            out_of_memory: _,
         } = self;
     }
 }
@@ -65,7 +65,7 @@ impl Session {
         ensures followed { IfOk result (λ session. session.followed ≡ 0) }
         ensures taken { IfOk result (λ session. session.taken ≡ 0) }
         ensures answers { IfOk result (λ session. session.answers.items ≡ []) }
-        ensures lost { IfOk result (λ session. session.lost ≡ false) }
+        ensures out_of_memory { IfOk result (λ session. session.out_of_memory ≡ false) }
         ensures follows { IfOk result (FollowsFrom (framework_of framework)) }
         ensures back { IfErr result (λ back. back ≡ seat) }
     {
@@ -77,7 +77,7 @@ impl Session {
                 followed: 0,
                 taken: 0,
                 answers: Vec::new(alloc),
-                lost: false,
+                out_of_memory: false,
             }),
             Err(_) => Err(seat),
         }
@@ -103,7 +103,7 @@ impl Session {
             followed: _,
             taken: _,
             answers,
-            lost: _,
+            out_of_memory: _,
         } = self;
         (seat, Kept { engine, answers })
     }

@@ -20,7 +20,7 @@ returns-clause-ok g c =
       followed = fresh.front;
       taken = old.taken;
       answers = old.answers;
-      lost = old.lost;
+      out_of_memory = old.out_of_memory;
     })
     fresh c.requires.followed c.in_ok-entries.ensures.gained.longer c.in_ok-entries.ensures.ok
     (subst (λ (changes : List Change). engine.framework ≡ framework_after old.engine.framework (entries_in changes)) is
