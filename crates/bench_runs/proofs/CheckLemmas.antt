@@ -1,7 +1,7 @@
 -- How a framework is led along a history, and certificates are checked on the way.
 use Rattle.std.proofs.Common.{arith, ◌≡◌, ℕ, zero, suc, ◌+◌, ◌<◌, ◌≤◌, List, [], ◌∷◌, ◌++◌, length, get_or, take}
 use Rattle.std.proofs.Common.{drop, map, refl, sym, ap, subst, ◌∙◌}
-use Rattle.std.specs.Prelude.{All, ◌==◌, count_by, filter}
+use Rattle.std.specs.Prelude.{All, count_by}
 use Rattle.std.specs.List.{sum_by}
 use Rattle.std.proofs.lemmas.List.Sums.{sum_by_more, sum_by_more_le}
 use Rattle.script_text.specs.declared.script.ScriptLine.{ScriptLine}
@@ -10,7 +10,6 @@ use Rattle.bench_runs.specs.Served.{FrontsRise, lines_of}
 use Rattle.bench_runs.specs.Checking.{IsCheckedTo, MayCheck}
 use Rattle.bench_runs.specs.Summaries.{AreRejected, AreRejections, IsRejection, is_told_query, queries_told}
 use Rattle.std.proofs.lemmas.List.{drop_all, drop_more, get_or-map, length-map, map-append, take_more}
-use Rattle.std.proofs.lemmas.Bool.{eq-eqb}
 use Rattle.semantics.specs.Frameworks.{Framework}
 use Rattle.edit_rules.specs.declared.edit.Edit.{Edit}
 use Rattle.edit_rules.specs.Replay.{after_edit, replay}
@@ -77,21 +76,16 @@ next_reply history replies front checked rejected reply may lt is =
       rise = rise.1;
     }
 
-kept : (s : ℕ) (line : ScriptLine) (left : List ScriptLine) → line.session ≡ s
-    → lines_of s (line ∷ left) ≡ line ∷ lines_of s left
-kept s line left is = rw (eq-eqb line.session s is) refl
-
 -- the reply to a line is checked
 pub checked_next : (f : Framework) (history : List Change) (lines : List ScriptLine) (replies : List Reply)
-    (left : List ScriptLine) (framework next : Framework) (front checked rejected count s : ℕ) (line : ScriptLine)
-    (reply : Reply) → line.session ≡ s → IsNextReply history replies front checked reply
-    → IsCheckedTo f history lines replies (lines_of s (line ∷ left)) framework front checked rejected
+    (left : List ScriptLine) (framework next : Framework) (front checked rejected count : ℕ) (line : ScriptLine)
+    (reply : Reply) → IsNextReply history replies front checked reply
+    → IsCheckedTo f history lines replies (line ∷ left) framework front checked rejected
     → (framework ≡ framework_after f (take front (entries_in history))
     → next ≡ framework_after f (take reply.front (entries_in history)))
     → IsRejection next line.command reply.body count → count ≤ 1
-    → IsCheckedTo f history lines replies (lines_of s left) next reply.front (checked + 1) (rejected + count)
-checked_next f history lines replies left framework next front checked rejected count s line reply mine is to led
-    found one =
+    → IsCheckedTo f history lines replies left next reply.front (checked + 1) (rejected + count)
+checked_next f history lines replies left framework next front checked rejected count line reply is to led found one =
     let few = to.may.few in
     let inside = is.inside in
     let at = led to.replayed in
@@ -100,15 +94,12 @@ checked_next f history lines replies left framework next front checked rejected 
       replayed = at;
       counted = λ more are.
           let here = subst (λ g. IsRejection g line.command reply.body count) at found in
-          let both : AreRejections f (entries_in history) (line ∷ lines_of s left) (reply ∷ drop (checked + 1) replies)
+          let both : AreRejections f (entries_in history) (line ∷ left) (reply ∷ drop (checked + 1) replies)
           (count + more) = (count, more, here, are, refl) in
           let sum : rejected + (count + more) ≡ rejected + count + more = omega arith in
           subst (λ n. AreRejections f (entries_in history) lines replies n) sum
           (to.counted (count + more)
-          (subst (λ l. AreRejections f (entries_in history) l (drop checked replies) (count + more))
-          (sym (kept s line left mine))
-          (subst (λ l. AreRejections f (entries_in history) (line ∷ lines_of s left) l (count + more))
-          (sym is.left) both)));
+          (subst (λ l. AreRejections f (entries_in history) (line ∷ left) l (count + more)) (sym is.left) both));
     }
 
 no_rejections : (f : Framework) (entries : List HistoryEntry) (lines : List ScriptLine) (n : ℕ)
@@ -118,21 +109,19 @@ no_rejections f entries (line ∷ lines) n = (λ h. h, λ h. h)
 
 -- where no reply is left, no line is
 pub checked_all : (f : Framework) (history : List Change) (lines : List ScriptLine) (replies : List Reply)
-    (left : List ScriptLine) (framework : Framework) (front checked rejected s : ℕ) (line : ScriptLine)
-    → length replies ≤ checked
-    → IsCheckedTo f history lines replies (lines_of s (line ∷ left)) framework front checked rejected
-    → IsCheckedTo f history lines replies (lines_of s left) framework front checked rejected
-checked_all f history lines replies left framework front checked rejected s line all to =
+    (left : List ScriptLine) (framework : Framework) (front checked rejected : ℕ) (line : ScriptLine)
+    → length replies ≤ checked → IsCheckedTo f history lines replies (line ∷ left) framework front checked rejected
+    → IsCheckedTo f history lines replies left framework front checked rejected
+checked_all f history lines replies left framework front checked rejected line all to =
     let none : drop checked replies ≡ [] = drop_all checked replies all in
     record {
       may = to.may;
       replayed = to.replayed;
       counted = λ more are.
-          let zero_more = (no_rejections f (entries_in history) (lines_of s left) more).0
-          (subst (λ l. AreRejections f (entries_in history) (lines_of s left) l more) none are) in
-          to.counted more (subst (λ l. AreRejections f (entries_in history) (lines_of s (line ∷ left)) l more)
-          (sym none)
-          ((no_rejections f (entries_in history) (lines_of s (line ∷ left)) more).1 zero_more));
+          let zero_more = (no_rejections f (entries_in history) left more).0
+          (subst (λ l. AreRejections f (entries_in history) left l more) none are) in
+          to.counted more (subst (λ l. AreRejections f (entries_in history) (line ∷ left) l more) (sym none)
+          ((no_rejections f (entries_in history) (line ∷ left) more).1 zero_more));
     }
 
 ended : (f : Framework) (entries : List HistoryEntry) (replies : List Reply) → AreRejections f entries [] replies 0
@@ -160,24 +149,17 @@ checked_end f history lines replies framework front checked rejected to =
     subst (λ n. AreRejections f (entries_in history) lines replies n) same
     (to.counted 0 (ended f (entries_in history) (drop checked replies)))
 
--- the next line, and the end of the lines
-pub next_line : (f : Framework) (history : List Change) (own lines : List ScriptLine) (replies : List Reply)
-    (framework : Framework) (front checked rejected s i : ℕ) (line : ScriptLine) → i < length lines
-    → line ≡ get_or lines i line
-    → IsCheckedTo f history own replies (lines_of s (drop i lines)) framework front checked rejected
-    → IsCheckedTo f history own replies (lines_of s (line ∷ drop (i + 1) lines)) framework front checked rejected
-next_line f history own lines replies framework front checked rejected s i line lt is to =
-    subst (λ l. IsCheckedTo f history own replies (lines_of s l) framework front checked rejected)
-    (drop_more lines i line lt ∙ ap (λ l. l ∷ drop (i + 1) lines) (sym is)) to
-
-pub no_line_left : (f : Framework) (history : List Change) (own lines : List ScriptLine) (replies : List Reply)
-    (framework : Framework) (front checked rejected s i : ℕ) → length lines ≤ i
-    → IsCheckedTo f history own replies (lines_of s (drop i lines)) framework front checked rejected
-    → AreRejections f (entries_in history) own replies rejected
-no_line_left f history own lines replies framework front checked rejected s i all to =
-    checked_end f history own replies framework front checked rejected
-    (subst (λ l. IsCheckedTo f history own replies (lines_of s l) framework front checked rejected)
-    (drop_all i lines all) to)
+-- no line is left
+pub no_line_left : {X : Type 0} (line_of : X → ScriptLine) (f : Framework) (history : List Change) (own : List X)
+    (replies : List Reply) (framework : Framework) (front checked rejected i : ℕ) → length own ≤ i
+    → IsCheckedTo f history (map line_of own) replies (drop i (map line_of own)) framework front checked rejected
+    → AreRejections f (entries_in history) (map line_of own) replies rejected
+no_line_left line_of f history own replies framework front checked rejected i all to =
+    let lines = map line_of own in
+    let long = length-map own line_of in
+    checked_end f history lines replies framework front checked rejected
+    (subst (λ l. IsCheckedTo f history lines replies l framework front checked rejected)
+    (drop_all i lines (omega (arith, long, all))) to)
 
 -- ---- sessions, one by one
 

@@ -2,7 +2,8 @@
 use Rattle.std.proofs.Common.{◌≡◌, ℕ, suc, ◌+◌, ◌-◌, ◌*◌, ◌/◌, ◌^◌, ◌<◌, ◌≤◌, List, [], ◌++◌, arith, refl, ap, sym, ◌∙◌}
 use Rattle.std.specs.List.{flat_map, range_with_len}
 use Rattle.std.proofs.Math.Nat.{mod-lt}
-use Rattle.bench_runs.specs.Generator.{attacker_of, attacks_drawn, attacks_from, attacks_on, next_state, state_after, state_before}
+use Rattle.bench_runs.specs.Generator.{attacker_of, attacks_drawn, attacks_from, attacks_on, next_state, state_after}
+use Rattle.bench_runs.specs.Generator.{state_before}
 use Rattle.script_text.specs.declared.script.ScriptLine.{ScriptLine}
 use Rattle.bench_runs.specs.Scripts.{asked_about, bench_script, lines_by, lines_for}
 use Rattle.bench_runs.proofs.Numbers.{one_more}

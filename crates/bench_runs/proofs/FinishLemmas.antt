@@ -37,7 +37,7 @@ use Rattle.bench_runs.proofs.ToldLemmas.{walked_served}
 -- ---- an empty script
 
 -- lines of no session are none
-no_lines : (s count : ℕ) (lines : List ScriptLine) → AreSessions lines count → count < s
+pub no_lines : (s count : ℕ) (lines : List ScriptLine) → AreSessions lines count → count < s
     → lines_of s lines ≡ []
 no_lines s count lines are few =
     filter_none (λ (l : ScriptLine). l.session == s) lines

@@ -14,6 +14,7 @@ pub mod SessionLines
 pub mod ServedLemmas
 pub mod ToldLemmas
 pub mod FinishLemmas
+pub mod SortLemmas
 pub mod OpenLemmas
 pub mod SessionLemmas
 pub mod LentLemmas

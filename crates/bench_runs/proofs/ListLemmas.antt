@@ -1,5 +1,7 @@
 -- Two lists side by side, beginnings of lists, and totals by a key.
-use Rattle.std.proofs.Common.{arith, Bool, true, false, ◌≡◌, ◌⊎◌, ℕ, zero, suc, ◌==◌, ◌+◌, ◌<◌, ◌≤◌, List, [], ◌∷◌, ◌++◌, Contains, length, get_or, take, drop, cond, refl, sym, ap, subst, ◌∙◌, nat_lt, inl, inr, ⊎_elim}
+use Rattle.std.proofs.Common.{arith, Bool, true, false, ◌≡◌, ◌⊎◌, ℕ, zero, suc, ◌==◌, ◌+◌, ◌<◌, ◌≤◌, List, [], ◌∷◌}
+use Rattle.std.proofs.Common.{◌++◌, Contains, length, get_or, take, drop, cond, refl, sym, ap, subst, ◌∙◌, nat_lt, inl}
+use Rattle.std.proofs.Common.{inr, ⊎_elim}
 use Rattle.std.specs.Prelude.{All, count_by, filter}
 use Rattle.std.specs.List.{AllPairs, AllZip}
 use Rattle.std.proofs.lemmas.Bool.{cases_Bool}

@@ -1,7 +1,7 @@
 -- What a session is told of an edit and of a query is so, and what its walk through its lines comes to.
 use Rattle.std.proofs.Common.{arith, Bool, ◌≡◌, ℕ, ◌==◌, ◌+◌, List, [], ◌∷◌, ◌++◌, true, false, refl, sym, ap}
 use Rattle.std.proofs.Common.{subst, ◌∙◌}
-use Rattle.std.specs.Prelude.{◌≢◌, ◌≤◌, length, filter, map, Contains}
+use Rattle.std.specs.Prelude.{◌≤◌, length, filter, map, Contains}
 use Rattle.std.proofs.lemmas.Bool.Decides.{nat_tests}
 use Rattle.std.proofs.lemmas.List.{append-nil, length-append}
 use Rattle.std.proofs.lemmas.List.Elements.{Contains-append_left, Contains-push, filter-append}
@@ -39,7 +39,7 @@ use Rattle.bench_runs.specs.Served.{EditEnds, IsFront, IsServed, LineEnds, entry
 use Rattle.bench_runs.specs.Walks.{DoesCommand, DoesEdit, DoesQuery, Stand, Walks, at_start}
 use Rattle.bench_runs.proofs.ServedLemmas.{AreDoneBy, IsDoneAt, all_zip_weaker, done_next, done_none, ends_on}
 use Rattle.bench_runs.proofs.ServedLemmas.{filter_one}
-use Rattle.bench_runs.proofs.ServedLemmas.{goes_on, other_line, own_line, prefix_on, prefix_short, rise_on, walks_push}
+use Rattle.bench_runs.proofs.ServedLemmas.{goes_on, own_line, prefix_on, prefix_short, rise_on, walks_push}
 
 same_prefix : {X : Type 0} → (xs : List X) → IsPrefix xs xs
 same_prefix xs = ([], append-nil xs)
@@ -243,15 +243,4 @@ own_done hub pool budget before old new replies line reply own ready told number
       (stand_of new) (lines_of old.session.number before) old.replies line reply h.walks told);
   pooled = pooled.own h.pooled;
   row = pooled.row h.row;
-}
-
--- a line of another session's was passed over
-pub other_done : (hub : Hub) (pool : Pool) (budget : ℕ) (before : List ScriptLine) (runner : Runner)
-    (line : ScriptLine) → line.session ≢ runner.session.number → HasServed hub pool budget before runner
-    → HasServed hub pool budget (before ++ line ∷ []) runner
-other_done hub pool budget before runner line other h = record {
-  ready = h.ready;
-  walks = rw (other_line runner.session.number before line other) h.walks;
-  pooled = h.pooled;
-  row = h.row;
 }

@@ -12,6 +12,7 @@ pub mod Served
 pub mod Running
 pub mod Shared
 pub mod Transcripts
+pub mod Sorting
 pub mod Finishing
 pub mod CoreWalks
 pub use Rattle.session_core as session_core

@@ -26,8 +26,8 @@ ImportsAreGiven answers log =
     (k : ℕ) → k < length log.steps → IsGivenStep answers (slice_index_or log.steps k no_step)
 
 -- each entry that was given for the session's queries is one of the pool's, and so is true in every world of every
--- framework, whatever the side clauses; they were given in the pool's order, from index 0 on and each once; and each step
--- that the session's log took from elsewhere has the name and the clause of one of them
+-- framework, whatever the side clauses; they were given in the pool's order, from index 0 on and each once; and each
+-- step that the session's log took from elsewhere has the name and the clause of one of them
 pub record TakesFromPool (pool : Pool) (log : OracleLog) (answers : List KeptAnswer) : Type 0 where
   pub tokens : RestOnPool pool answers
   pub row : AreInRow 0 (tokens_of answers) (length (tokens_of answers))

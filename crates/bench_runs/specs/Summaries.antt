@@ -33,8 +33,8 @@ counts_text c =
     ++ (codes "\nqueries " ++ (decimal c.queries ++ (codes "\nrejected " ++ (decimal c.rejected
     ++ (codes "\ngrounded " ++ (decimal c.grounded ++ codes "\n")))))))))))))
 
--- what there is to count of n arguments and a seed, whatever the run: each argument that is asked about has two edits and
--- two queries, no answer is rejected, and no argument is without attackers at the end
+-- what there is to count of n arguments and a seed, whatever the run: each argument that is asked about has two edits
+-- and two queries, no answer is rejected, and no argument is without attackers at the end
 abbrev pub bench_counts : ℕ → ℕ → Counts
 bench_counts n seed = record {
   arguments = n;

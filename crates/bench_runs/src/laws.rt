@@ -2,8 +2,8 @@
 
 ghost use Rattle.bench_runs.specs.Laws.{EditsAreTaken, NoneIsGrounded};
 
-/// Whatever the order of the sessions' turns, each of their edits is taken, and all of them leave the framework that there
-/// was.
+/// Whatever the order of the sessions' turns, each of their edits is taken, and all of them leave the framework that
+/// there was.
 pub fn edits_are_taken()
     ensures { EditsAreTaken }
 {}

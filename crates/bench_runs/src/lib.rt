@@ -1,5 +1,5 @@
-//! Runs of scripts: a script's sessions on one framework, each in a thread of its own over one history of edits; and large
-//! inputs drawn from a seed for trials of the server, their runs, what is counted of them, and the summary.
+//! Runs of scripts: a script's sessions on one framework, each in a thread of its own over one history of edits; and
+//! large inputs drawn from a seed for trials of the server, their runs, what is counted of them, and the summary.
 #![tactic(auto)]
 
 mod counts;
@@ -14,6 +14,7 @@ mod run;
 mod runner;
 mod script;
 mod script_run;
+mod sorted;
 mod tally;
 mod transcript;
 pub mod walk_laws;

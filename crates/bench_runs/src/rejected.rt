@@ -1,16 +1,17 @@
 //! The check of the certificates of all answers.
 
-ghost use Rattle.std.specs.Prelude.{◌≡◌, ◌∷◌, ℕ, ◌<◌, ◌≤◌, ◌^◌, List, All, IfOk, OnOk, length};
+ghost use Rattle.std.specs.Prelude.{◌≡◌, ◌∷◌, ℕ, ◌<◌, ◌≤◌, ◌^◌, List, All, IfOk, OnOk, length, map};
 ghost use Rattle.std.specs.List.{sum_by};
 ghost use Rattle.semantics.specs.Frameworks.{Framework as AnyFramework};
 ghost use Rattle.edit_rules.specs.Kinds.{framework_of};
 ghost use Rattle.edit_history.specs.Entries.{entries_in};
 ghost use Rattle.script_text.specs.declared.script.ScriptLine.{ScriptLine as ALine};
-ghost use Rattle.bench_runs.specs.Served.{FrontsRise, lines_of};
+ghost use Rattle.bench_runs.specs.Served.{FrontsRise};
 ghost use Rattle.bench_runs.specs.Summaries.{AreRejected, AreRejections, IsRejection, rejections};
 ghost use Rattle.bench_runs.specs.Checking.{IsCheckedTo, MayCheck};
 
 use crate::replay::lead;
+use crate::sorted::SortedLines;
 use certificate_check::check;
 use certificate_claims::Verdict;
 use edit_history::Change;
@@ -64,25 +65,21 @@ struct Checking {
 }
 
 impl Checking {
-    /// Checks the reply to a line, where it is one of the session's.
+    /// Checks the reply to a line.
     fn take_line(
         &mut self,
         alloc: Global,
         history: &[Change],
         line: &ScriptLine,
-        session: u32,
         replies: &[Reply],
     ) -> Result<(), Memory>
         requires { MayCheck history.now replies.now self.old.front self.old.checked self.old.rejected }
         ensures { (f : AnyFramework) → (lines : List ALine) → (left : List ALine)
-            → IsCheckedTo f history.now lines replies.now (lines_of session (line.now ∷ left))
+            → IsCheckedTo f history.now lines replies.now (line.now ∷ left)
             (framework_of self.old.framework) self.old.front self.old.checked self.old.rejected
-            → OnOk result (IsCheckedTo f history.now lines replies.now (lines_of session left)
+            → OnOk result (IsCheckedTo f history.now lines replies.now left
             (framework_of self.new.framework) self.new.front self.new.checked self.new.rejected) }
     {
-        if line.session != session {
-            return Ok(());
-        }
         let Some(reply) = replies.get(self.checked) else {
             return Ok(());
         };
@@ -96,18 +93,18 @@ impl Checking {
     }
 }
 
-/// How many certificates of a session's replies are rejected, each on the framework behind the entries up to its front.
+/// How many certificates of the replies to these lines are rejected, each on the framework behind the entries up to its
+/// front.
 fn rejected_of(
     alloc: Global,
     opening: &Framework,
     history: &[Change],
-    lines: &[ScriptLine],
-    session: u32,
+    lines: &[&ScriptLine],
     replies: &[Reply],
 ) -> Result<usize, Memory>
     requires { FrontsRise 0 replies.now (length history.now) }
     ensures counted { IfOk result (AreRejections (framework_of opening.now) (entries_in history.now)
-        (lines_of session lines.now) replies.now) }
+        (map (λ line. line.now) lines.now) replies.now) }
     ensures few { IfOk result (λ count. count ≤ length replies.now) }
 {
     let mut checking = Checking {
@@ -117,7 +114,7 @@ fn rejected_of(
         rejected: 0,
     };
     for line in lines {
-        checking.take_line(alloc, history, line, session, replies)?;
+        checking.take_line(alloc, history, *line, replies)?;
     }
     Ok(checking.rejected)
 }
@@ -127,7 +124,7 @@ pub(crate) fn rejected_in(
     alloc: Global,
     opening: &Framework,
     history: &[Change],
-    lines: &[ScriptLine],
+    lines: &SortedLines<'_>,
     sessions: &[Items<Reply>],
 ) -> Result<usize, Memory>
     requires rise { All (λ replies. FrontsRise 0 replies (length history.now)) sessions.now }
@@ -138,7 +135,8 @@ pub(crate) fn rejected_in(
     let mut session = 1;
     let mut total = 0;
     for replies in sessions {
-        total += rejected_of(alloc, opening, history, lines, session, replies.as_slice())?;
+        let own = lines.own(session);
+        total += rejected_of(alloc, opening, history, own, replies.as_slice())?;
         session += 1;
     }
     Ok(total)

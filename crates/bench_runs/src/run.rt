@@ -11,6 +11,7 @@ ghost use Rattle.bench_runs.specs.Summaries.{bench_counts, counts_text, summary 
 
 use crate::counts::{Counts, summary_text};
 use crate::rejected::rejected_in;
+use crate::sorted::SortedLines;
 use crate::tally::{last_grounded, queries_of, sizes};
 use crate::{ScriptTranscript, bench_input, run_script};
 use argue_outside::Pace;
@@ -53,7 +54,8 @@ fn count(
     let opening = &transcript.history.opening;
     let history = transcript.history.entries.as_slice();
     let replies = transcript.replies.as_slice();
-    let rejected = rejected_in(alloc, opening, history, script.lines.as_slice(), replies)?;
+    let lines = SortedLines::new(alloc, script.lines.as_slice())?;
+    let rejected = rejected_in(alloc, opening, history, &lines, replies)?;
     let grounded = last_grounded(alloc, opening, history)?;
     let (arguments, attacks) = sizes(opening);
     Ok(Counts {

@@ -9,13 +9,14 @@ ghost use Rattle.clause_pool.specs.declared.pool.Pool.{Pool as APool};
 ghost use Rattle.session_core.specs.Sessions.{TakesMore};
 ghost use Rattle.bench_runs.specs.Running.{HasServed, IsReady, IsTold};
 
+use crate::sorted::SortedLines;
 use argue_outside::{Pace, Point};
 use clause_pool::Pool;
 use edit_history::{Hub, Seat};
 use edit_rules::Framework;
 use hinted_log::MAX_STEPS;
 use lists::{Items, Memory};
-use script_text::{Script, ScriptCommand, ScriptLine};
+use script_text::{ScriptCommand, ScriptLine};
 use session_core::Session;
 use session_replies::Reply;
 use std::alloc::Global;
@@ -103,7 +104,7 @@ impl Runner {
         }
     }
 
-    /// Does a line, where it is one of the session's.
+    /// Does a line of the session's.
     fn take_line<R: Wait, P: Pace>(
         &mut self,
         rt: &R,
@@ -114,14 +115,12 @@ impl Runner {
         budget: u64,
         pace: &P,
     ) -> Result<(), Memory>
-        requires { IsReady hub.now self.old.session }
+        requires ready { IsReady hub.now self.old.session }
+        requires own { line.now.session ≡ self.old.session.number }
         ensures served { (before : List ALine) → HasServed hub.now pool.now budget before self.old
             → OnOk result (HasServed hub.now pool.now budget (before ++ line.now ∷ []) self.new) }
         ensures number { self.new.session.number ≡ self.old.session.number }
     {
-        if line.session != self.session.number() {
-            return Ok(());
-        }
         let reply = self.execute(rt, alloc, hub, pool, &line.command, budget, pace)?;
         self.replies.push(reply)?;
         Ok(())
@@ -134,16 +133,17 @@ impl Runner {
         alloc: Global,
         hub: &Hub,
         pool: &Pool,
-        script: &Script,
+        lines: &SortedLines<'_>,
         budget: u64,
         pace: &P,
     ) -> Result<(), Memory>
         requires { HasServed hub.now pool.now budget [] self.old }
-        ensures served { OnOk result (HasServed hub.now pool.now budget script.now.lines self.new) }
+        ensures served { OnOk result (HasServed hub.now pool.now budget lines.now self.new) }
         ensures number { self.new.session.number ≡ self.old.session.number }
     {
-        for line in script.lines.as_slice() {
-            self.take_line(rt, alloc, hub, pool, line, budget, pace)?;
+        let own = lines.own(self.session.number());
+        for line in own {
+            self.take_line(rt, alloc, hub, pool, *line, budget, pace)?;
         }
         Ok(())
     }

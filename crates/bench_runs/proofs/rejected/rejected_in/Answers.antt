@@ -1,8 +1,8 @@
-use Rattle.std.proofs.Common.{◌≡◌, ◌≤◌, ◌+◌, ◌∙◌, ap, arith, length, subst, sym}
+use Rattle.std.proofs.Common.{◌≡◌, ◌≤◌, ◌+◌, ◌∙◌, ap, arith, length, map, subst, sym}
 use Rattle.std.specs.Prelude.{get_or}
 use Rattle.edit_rules.specs.Kinds.{framework_of}
 use Rattle.edit_history.specs.Entries.{entries_in}
-use Rattle.bench_runs.specs.Served.{FrontsRise, lines_of}
+use Rattle.bench_runs.specs.Served.{FrontsRise}
 use Rattle.bench_runs.specs.Summaries.{AreRejections}
 use Rattle.bench_runs.proofs.CheckLemmas.{total_begin, total_end, total_fits, total_next}
 use Rattle.bench_runs.proofs.rejected.rejected_in.Goals as goal
@@ -35,9 +35,11 @@ loop-replies-preserved c =
     total_next (framework_of c.args.opening.now) (entries_in c.args.history.now) c.args.lines.now c.args.sessions.now
     c.loop-replies.replies-index c.loop-replies.session c.loop-replies.total c.in_ok-total.field-0 c.replies-item.result
     c.loop-replies-test.true c.replies-item.is c.loop-replies.invariant few
+    (subst (λ own. AreRejections (framework_of c.args.opening.now) (entries_in c.args.history.now) own
+    c.replies-item.result c.in_ok-total.field-0) c.own-own.ensures
     (subst (λ l. AreRejections (framework_of c.args.opening.now) (entries_in c.args.history.now)
-    (lines_of c.loop-replies.session c.args.lines.now) l c.in_ok-total.field-0) c.as_slice.ensures
-    c.in_ok-total.ensures.counted)
+    (map (λ line. line.now) c.own-own.result.now) l c.in_ok-total.field-0) c.as_slice.ensures
+    c.in_ok-total.ensures.counted))
 
 pub returns : goal.returns
 returns c =

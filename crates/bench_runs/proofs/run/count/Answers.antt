@@ -33,10 +33,11 @@ queries_of-requires c =
 pub returns : goal.returns
 returns c =
     all_counted (bench_framework c.args.n c.args.seed) (bench_script c.args.n c.args.seed) c.args.transcript.now
-    (framework_of c.args.transcript.now.history.opening) c.as_slice-history.result.now c.as_slice.result.now
+    (framework_of c.args.transcript.now.history.opening) c.as_slice-history.result.now c.in_ok-lines.lines
     c.as_slice-replies.result.now c.sizes-arguments.result.0 c.sizes-arguments.result.1
     (length c.as_slice-history.result.now) c.queries_of.result c.in_ok-rejected.rejected c.in_ok-grounded.grounded
     c.requires.transcript.opening c.as_slice-history.ensures.value
-    (c.as_slice.ensures ∙ ap (λ script. script.lines) c.requires.script) c.as_slice-replies.ensures.value
+    (c.in_ok-lines.ensures ∙ (c.as_slice.ensures ∙ ap (λ script. script.lines) c.requires.script))
+    c.as_slice-replies.ensures.value
     c.sizes-arguments.ensures.arguments c.sizes-arguments.ensures.attacks refl c.queries_of.ensures
     c.in_ok-rejected.ensures c.in_ok-grounded.ensures
