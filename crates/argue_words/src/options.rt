@@ -131,8 +131,8 @@ pub(crate) fn lrat_command<'a>(alloc: Global) -> Result<Command<'a>, AllocError>
     with_arg(command, value_arg(alloc, "lrat", 'l', true))
 }
 
-/// The command of the options of a check and of `-i REFUTATION` and `-o OUTPUT`, whose words begin after the name of the
-/// command.
+/// The command of the options of a check and of `-i REFUTATION` and `-o OUTPUT`, whose words begin after the name of
+/// the command.
 #[tactic(auto, unfolding(crate::specs::Words::export_app))]
 pub(crate) fn export_command<'a>(alloc: Global) -> Result<Command<'a>, AllocError>
     ensures { IfOk result (λ c. app_of c ≡ export_app) }

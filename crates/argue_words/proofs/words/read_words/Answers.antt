@@ -52,4 +52,5 @@ returns-in-Some-Export-clause-unknown c =
     let is : c.in-Some-Export.field-0 ≡ command.Export = search rules in
     named_unknown (map string_bytes c.args.words.now) (map string_bytes c.in-Some.rest.now)
     (string_bytes c.in-Some.first.now) command.Export c.read_export.result (search rules)
-    (ap named (sym c.as_str.ensures.value) ∙ sym c.named.ensures ∙ c.in-Some-Export.is ∙ ap Some is) c.read_export.ensures.request
+    (ap named (sym c.as_str.ensures.value) ∙ sym c.named.ensures ∙ c.in-Some-Export.is ∙ ap Some is)
+    c.read_export.ensures.request
