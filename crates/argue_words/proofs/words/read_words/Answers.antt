@@ -1,4 +1,4 @@
-use Rattle.std.proofs.Common.{◌≡◌, ◌∷◌, ◌∙◌, ap, map, rules, sym, Some}
+use Rattle.std.proofs.Common.{◌≡◌, ◌∙◌, ap, map, rules, sym, Some}
 use Rattle.std.specs.String.{string_bytes}
 use Rattle.argue_words.specs.declared.words.CommandName.TheVariants as command
 use Rattle.argue_words.specs.Words.{named}
