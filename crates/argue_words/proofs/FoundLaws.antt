@@ -6,6 +6,7 @@ use Rattle.clap.specs.Words.{App, Text, takes}
 use Rattle.argue_words.specs.declared.words.Command.{Command}
 use Rattle.argue_words.specs.declared.words.Command.TheVariants.{Unknown}
 use Rattle.argue_words.specs.declared.words.CommandName.{CommandName}
+use Rattle.argue_words.specs.Words.{exporting, export_app, export_request, export_requested, export_value}
 use Rattle.argue_words.specs.Words.{verifying, lrat_app, lrat_request, lrat_requested, lrat_value}
 use Rattle.argue_words.specs.Words.{AreUnknown, RefusesOthers, Request, checking, living, benching, by_name}
 use Rattle.argue_words.specs.Words.{numbering, unknown, af_app, af_request, af_requested, af_value, bench_app}
@@ -15,6 +16,8 @@ use Rattle.argue_words.specs.Words.{live_requested, live_value, named, names_app
 use Rattle.argue_words.specs.Words.{names_value, other_requested, request_of, requested, requested_by, solve_app}
 use Rattle.argue_words.specs.Words.{solve_request, solve_requested, solve_value, words_are_problems}
 use Rattle.argue_words.proofs.RequestNames.{solve_if, check_if, live_if, bench_if, names_if, af_if, lrat_if, other_if}
+use Rattle.argue_words.proofs.RequestNames.{export_if}
+use Rattle.argue_words.proofs.RequestLaws.{requested_export}
 use Rattle.argue_words.proofs.RequestLaws.{requested_texts, requested_script, requested_input, requested_names}
 use Rattle.argue_words.proofs.RequestLaws.{requested_af, requested_lrat}
 
@@ -216,6 +219,46 @@ lrat_matched words found request taken values is =
     ∙ ap (λ o. lrat_request (lrat_value words (codes "cnf")) o) (values (codes "lrat"))
     ∙ sym (ap (λ b. lrat_if b words) taken)
 
+-- the words for the texts of a refutation that clap refuses for another cause than want of memory ask for nothing
+pub export_at : {E : Type 0} (K : Type 0) (words : List Text) (r : Result Command E)
+    → (takes export_app words ≡ true → K) → IfOk r (λ c. (c ≡ Unknown) × (K → ⊥))
+    → IfOk r (λ c. request_of c ≡ export_requested words)
+unfolding export_requested
+export_at K words (Err e) cause h = tt
+export_at K words (Ok c) cause h =
+    ap request_of h.0 ∙ sym (ap (λ b. export_if b words) (refused_if export_app words (takes export_app words) refl
+    (λ taken. h.1 (cause taken))))
+
+-- what clap matches on the words for the texts of a refutation asks for what they do
+pub export_matched : (words : List Text) (found : Text → Option Text) (request : Request)
+    → takes export_app words ≡ true → ((id : Text) → found id ≡ export_value words id)
+    → request ≡ export_request (found (codes "task")) (found (codes "number")) (found (codes "file")) (found (codes
+    "answer")) (found (codes "certificate")) (found (codes "refutation")) (found (codes "output"))
+    → request ≡ export_requested words
+unfolding export_requested
+export_matched words found request taken values is =
+    is
+    ∙ ap (λ o. export_request o (found (codes "number")) (found (codes "file")) (found (codes "answer")) (found
+    (codes "certificate")) (found (codes "refutation")) (found (codes "output"))) (values (codes "task"))
+    ∙ ap (λ o. export_request (export_value words (codes "task")) o (found (codes "file")) (found (codes "answer"))
+    (found (codes "certificate")) (found (codes "refutation")) (found (codes "output"))) (values (codes "number"))
+    ∙ ap (λ o. export_request (export_value words (codes "task")) (export_value words (codes "number")) o (found
+    (codes "answer")) (found (codes "certificate")) (found (codes "refutation")) (found (codes "output"))) (values
+    (codes "file"))
+    ∙ ap (λ o. export_request (export_value words (codes "task")) (export_value words (codes "number")) (export_value
+    words (codes "file")) o (found (codes "certificate")) (found (codes "refutation")) (found (codes "output")))
+    (values (codes "answer"))
+    ∙ ap (λ o. export_request (export_value words (codes "task")) (export_value words (codes "number")) (export_value
+    words (codes "file")) (export_value words (codes "answer")) o (found (codes "refutation")) (found (codes
+    "output"))) (values (codes "certificate"))
+    ∙ ap (λ o. export_request (export_value words (codes "task")) (export_value words (codes "number")) (export_value
+    words (codes "file")) (export_value words (codes "answer")) (export_value words (codes "certificate")) o (found
+    (codes "output"))) (values (codes "refutation"))
+    ∙ ap (λ o. export_request (export_value words (codes "task")) (export_value words (codes "number")) (export_value
+    words (codes "file")) (export_value words (codes "answer")) (export_value words (codes "certificate"))
+    (export_value words (codes "refutation")) o) (values (codes "output"))
+    ∙ sym (ap (λ b. export_if b words) taken)
+
 -- ---- all words
 
 -- words that name no command, by whether they are `--problems` alone
@@ -236,6 +279,7 @@ unknown_words words c some asks other is =
       no_names = λ texts query. let e : unknown ≡ by_name texts = none ∙ requested_names words texts query in cc;
       no_af = λ texts query. let e : unknown ≡ numbering texts = none ∙ requested_af words texts query in cc;
       no_lrat = λ texts query. let e : unknown ≡ verifying texts = none ∙ requested_lrat words texts query in cc;
+      no_export = λ texts query. let e : unknown ≡ exporting texts = none ∙ requested_export words texts query in cc;
       others = other;
     }
 

@@ -6,6 +6,8 @@ use Rattle.std.proofs.lemmas.Slice.Eq.{bytes_eq-Decides}
 use Rattle.clap.specs.Words.{Text, takes}
 use Rattle.clap.proofs.OnLiterals.{clap_on_literals}
 use Rattle.argue_words.specs.declared.words.CommandName.{CommandName}
+use Rattle.argue_words.specs.Words.{ExportTexts, HasExportTexts, IsExportQuery, exporting, export_app, export_request}
+use Rattle.argue_words.specs.Words.{export_requested}
 use Rattle.argue_words.specs.Words.{LratTexts, HasLratTexts, IsLratQuery, verifying, lrat_app, lrat_request, lrat_requested}
 use Rattle.argue_words.specs.Words.{AfTexts, AreWords, BenchTexts, CheckTexts, HasAfTexts, HasBenchTexts}
 use Rattle.argue_words.specs.Words.{HasCheckTexts, HasLiveTexts, HasNamesTexts, HasSolveTexts, IsAfQuery}
@@ -16,14 +18,14 @@ use Rattle.argue_words.specs.Words.{bench_app, bench_request, bench_requested, c
 use Rattle.argue_words.specs.Words.{check_requested, command_named, live_app, live_request, live_requested, named}
 use Rattle.argue_words.specs.Words.{names_app, names_request, names_requested, requested, requested_by, solve_app}
 use Rattle.argue_words.specs.Words.{solve_request, solve_requested, task_app, words_are_problems}
-use Rattle.argue_words.specs.Words.AreWords.{for_lrat}
+use Rattle.argue_words.specs.Words.AreWords.{for_export, for_lrat}
 use Rattle.argue_words.specs.Words.AreWords.{for_af, for_bench, for_check, for_list, for_live, for_names, for_none}
 use Rattle.argue_words.specs.Words.AreWords.{for_solve}
 use Rattle.argue_words.specs.declared.words.CommandName.TheVariants as command
 use Rattle.argue_words.proofs.RequestNames.{named_word, IsOf, IsOfSolve, solve_same, check_same, live_same}
 use Rattle.argue_words.proofs.RequestNames.{bench_same, names_same, af_same, lrat_same, solve_if, check_if, live_if}
 use Rattle.argue_words.proofs.RequestNames.{bench_if, names_if, af_if, lrat_if, of_solve, other_if, of_name, name_is}
-use Rattle.argue_words.proofs.RequestNames.{requested_named, requested_other}
+use Rattle.argue_words.proofs.RequestNames.{requested_named, requested_other, export_same, export_if}
 
 -- ---- the laws: what words ask for
 
@@ -139,6 +141,22 @@ unfolding lrat_requested
 requested_lrat words texts query =
     requested_named words query.rest command.Lrat query.words_are ∙ ap (λ b. lrat_if b query.rest) query.has.taken
     ∙ lrat_from _ _ texts query.has.cnf query.has.lrat
+
+export_from : (task number file answer certificate refutation output : Option Text) (texts : ExportTexts)
+    → task ≡ Some texts.check.task → number ≡ texts.check.number → file ≡ Some texts.check.file
+    → answer ≡ Some texts.check.answer → certificate ≡ Some texts.check.certificate
+    → refutation ≡ Some texts.refutation → output ≡ Some texts.output
+    → export_request task number file answer certificate refutation output ≡ exporting texts
+export_from task number file answer certificate refutation output texts a b c d e f g = rw (a, b, c, d, e, f, g) refl
+
+-- the texts of a refutation are asked for by their texts
+pub requested_export : (words : List Text) (texts : ExportTexts) → IsExportQuery words texts
+    → requested words ≡ exporting texts
+unfolding export_requested
+requested_export words texts query =
+    requested_named words query.rest command.Export query.words_are ∙ ap (λ b. export_if b query.rest) query.has.taken
+    ∙ export_from _ _ _ _ _ _ _ texts query.has.task query.has.number query.has.file query.has.answer
+    query.has.certificate query.has.refutation query.has.output
 
 -- ---- the laws: only these words ask for it
 
@@ -316,6 +334,43 @@ has_lrat words texts true taken is = let found = lrat_to _ _ texts is in record 
 }
 has_lrat words texts false taken is = cc
 
+export_to : (task number file answer certificate refutation output : Option Text) (texts : ExportTexts)
+    → export_request task number file answer certificate refutation output ≡ exporting texts
+    → (task ≡ Some texts.check.task) × (number ≡ texts.check.number) × (file ≡ Some texts.check.file) × (answer ≡
+    Some texts.check.answer) × (certificate ≡ Some texts.check.certificate) × (refutation ≡ Some texts.refutation) ×
+    (output ≡ Some texts.output)
+export_to None number file answer certificate refutation output texts is = cc
+export_to (Some task) number None answer certificate refutation output texts is = cc
+export_to (Some task) number (Some file) None certificate refutation output texts is = cc
+export_to (Some task) number (Some file) (Some answer) None refutation output texts is = cc
+export_to (Some task) number (Some file) (Some answer) (Some certificate) None output texts is = cc
+export_to (Some task) number (Some file) (Some answer) (Some certificate) (Some refutation) None texts is = cc
+export_to (Some task) number (Some file) (Some answer) (Some certificate) (Some refutation) (Some output) texts is =
+    let same = export_same is in (
+      ap (λ t. Some t.check.task) same,
+      ap (λ t. t.check.number) same,
+      ap (λ t. Some t.check.file) same,
+      ap (λ t. Some t.check.answer) same,
+      ap (λ t. Some t.check.certificate) same,
+      ap (λ t. Some t.refutation) same,
+      ap (λ t. Some t.output) same,
+    )
+
+has_export : (words : List Text) (texts : ExportTexts) (b : Bool) → takes export_app words ≡ b
+    → export_if b words ≡ exporting texts → HasExportTexts words texts
+has_export words texts true taken is = let found = export_to _ _ _ _ _ _ _ texts is in record {
+  taken = taken;
+  task =
+      found.0;
+  number = found.1;
+  file = found.2;
+  answer = found.3;
+  certificate = found.4;
+  refutation = found.5;
+  output = found.6;
+}
+has_export words texts false taken is = cc
+
 other_query : (words : List Text) (texts : SolveTexts) (b : Bool) → command_named words ≡ None
     → words_are_problems words ≡ b → other_if b words ≡ solving texts → IsSolveQuery words texts
 unfolding solve_requested
@@ -449,6 +504,21 @@ lrat_requested_by (word ∷ more) texts is =
       has = has_lrat more texts (takes lrat_app more) refl asks;
     }
 
+-- only the words for the texts of a refutation ask for them
+pub export_requested_by : (words : List Text) (texts : ExportTexts) → requested words ≡ exporting texts
+    → IsExportQuery words texts
+unfolding export_requested
+export_requested_by [] texts is = cc
+export_requested_by (word ∷ more) texts is =
+    let name = name_is word more (exporting texts) (Some command.Export) is refl in
+    let asks : export_requested more ≡ exporting texts =
+    ap (λ m. requested_by m (word ∷ more) more) (sym name) ∙ is in
+    record {
+      rest = more;
+      words_are = ap (λ w. w ∷ more) (named_word word command.Export name);
+      has = has_export more texts (takes export_app more) refl asks;
+    }
+
 -- words that ask for nothing are not well-formed
 pub unknown_requested : (words : List Text) → requested words ≡ unknown → ¬ AreWords words
 unknown_requested words is (for_none none) = let e : version ≡ unknown = sym (requested_none words none) ∙ is in cc
@@ -468,6 +538,8 @@ unknown_requested words is (for_af texts query) =
     let e : numbering texts ≡ unknown = sym (requested_af words texts query) ∙ is in cc
 unknown_requested words is (for_lrat texts query) =
     let e : verifying texts ≡ unknown = sym (requested_lrat words texts query) ∙ is in cc
+unknown_requested words is (for_export texts query) =
+    let e : exporting texts ≡ unknown = sym (requested_export words texts query) ∙ is in cc
 
 unless_words : (words : List Text) (request : Request) → requested words ≡ request → ¬ AreWords words
     → request ≡ unknown
@@ -487,6 +559,8 @@ unless_words words (numbering texts) is other =
     absurd (other (for_af texts (af_requested_by words texts is)))
 unless_words words (verifying texts) is other =
     absurd (other (for_lrat texts (lrat_requested_by words texts is)))
+unless_words words (exporting texts) is other =
+    absurd (other (for_export texts (export_requested_by words texts is)))
 unless_words words unknown is other = refl
 
 -- words that are not well-formed ask for nothing

@@ -6,6 +6,7 @@ use Rattle.std.specs.Str.{bytes_eq}
 use Rattle.std.proofs.lemmas.Slice.Eq.{bytes_eq-Decides}
 use Rattle.clap.specs.Words.{Text, takes}
 use Rattle.argue_words.specs.declared.words.CommandName.{CommandName}
+use Rattle.argue_words.specs.Words.{ExportTexts, exporting, export_app, export_request, export_requested, export_value}
 use Rattle.argue_words.specs.Words.{LratTexts, verifying, lrat_app, lrat_request, lrat_requested, lrat_value}
 use Rattle.argue_words.specs.Words.{AfTexts, BenchTexts, CheckTexts, LiveTexts, NamesTexts, Request, SolveTexts}
 use Rattle.argue_words.specs.Words.{version, problems, solving, checking, living, benching, by_name, numbering}
@@ -20,40 +21,44 @@ use Rattle.argue_words.specs.declared.words.CommandName.TheVariants as command
 -- ---- the names of commands
 
 -- by whether the word is each of the names
-abbrev pub named_if : Bool → Bool → Bool → Bool → Bool → Bool → Option CommandName
-named_if check live bench names af lrat =
+abbrev pub named_if : Bool → Bool → Bool → Bool → Bool → Bool → Bool → Option CommandName
+named_if check live bench names af lrat export =
     if check then Some command.Check
     else (if live then Some command.Live
     else (if bench then Some command.Bench
     else (if names then Some command.Names
     else (if af then Some command.Af
-    else (if lrat then Some command.Lrat else None)))))
+    else (if lrat then Some command.Lrat
+    else (if export then Some command.Export else None))))))
 
 pub some_name : {m n : CommandName} → Some m ≡ Some n → m ≡ n
 some_name e = cc
 
-pub word_named : (word : Text) (n : CommandName) (check live bench names af lrat : Bool)
+pub word_named : (word : Text) (n : CommandName) (check live bench names af lrat export : Bool)
     → bytes_eq word (codes "check") ≡ check
     → bytes_eq word (codes "live") ≡ live → bytes_eq word (codes "bench") ≡ bench
     → bytes_eq word (codes "names") ≡ names → bytes_eq word (codes "af") ≡ af → bytes_eq word (codes "lrat") ≡ lrat
-    → named_if check live bench names af lrat ≡ Some n → word ≡ name_text n
-word_named word n true live bench names af lrat p q r s t u is =
+    → bytes_eq word (codes "export") ≡ export → named_if check live bench names af lrat export ≡ Some n
+    → word ≡ name_text n
+word_named word n true live bench names af lrat export p q r s t u v is =
     (bytes_eq-Decides word (codes "check")).0 p ∙ ap name_text (some_name is)
-word_named word n false true bench names af lrat p q r s t u is =
+word_named word n false true bench names af lrat export p q r s t u v is =
     (bytes_eq-Decides word (codes "live")).0 q ∙ ap name_text (some_name is)
-word_named word n false false true names af lrat p q r s t u is =
+word_named word n false false true names af lrat export p q r s t u v is =
     (bytes_eq-Decides word (codes "bench")).0 r ∙ ap name_text (some_name is)
-word_named word n false false false true af lrat p q r s t u is =
+word_named word n false false false true af lrat export p q r s t u v is =
     (bytes_eq-Decides word (codes "names")).0 s ∙ ap name_text (some_name is)
-word_named word n false false false false true lrat p q r s t u is =
+word_named word n false false false false true lrat export p q r s t u v is =
     (bytes_eq-Decides word (codes "af")).0 t ∙ ap name_text (some_name is)
-word_named word n false false false false false true p q r s t u is =
+word_named word n false false false false false true export p q r s t u v is =
     (bytes_eq-Decides word (codes "lrat")).0 u ∙ ap name_text (some_name is)
-word_named word n false false false false false false p q r s t u is = cc
+word_named word n false false false false false false true p q r s t u v is =
+    (bytes_eq-Decides word (codes "export")).0 v ∙ ap name_text (some_name is)
+word_named word n false false false false false false false p q r s t u v is = cc
 
 -- a word that names a command is its name
 pub named_word : (word : Text) (n : CommandName) → named word ≡ Some n → word ≡ name_text n
-named_word word n is = word_named word n _ _ _ _ _ _ refl refl refl refl refl refl is
+named_word word n is = word_named word n _ _ _ _ _ _ _ refl refl refl refl refl refl refl is
 
 -- and the name of a command names it
 pub name_named : (n : CommandName) → named (name_text n) ≡ Some n
@@ -63,6 +68,7 @@ name_named command.Bench = refl
 name_named command.Names = refl
 name_named command.Af = refl
 name_named command.Lrat = refl
+name_named command.Export = refl
 
 -- words that name another command don't begin with this one's name
 pub no_name_in : (words rest : List Text) (n : CommandName) → command_named words ≢ Some n
@@ -82,6 +88,7 @@ request_name (benching texts) = Some (Some command.Bench)
 request_name (by_name texts) = Some (Some command.Names)
 request_name (numbering texts) = Some (Some command.Af)
 request_name (verifying texts) = Some (Some command.Lrat)
+request_name (exporting texts) = Some (Some command.Export)
 request_name unknown = None
 
 -- the request is unknown, or of this command
@@ -105,6 +112,7 @@ of_none_named (benching texts) h = absurd h
 of_none_named (by_name texts) h = absurd h
 of_none_named (numbering texts) h = absurd h
 of_none_named (verifying texts) h = absurd h
+of_none_named (exporting texts) h = absurd h
 
 pub solve_same : {s t : SolveTexts} → solving s ≡ solving t → s ≡ t
 solve_same e = cc
@@ -126,6 +134,9 @@ af_same e = cc
 
 pub lrat_same : {s t : LratTexts} → verifying s ≡ verifying t → s ≡ t
 lrat_same e = cc
+
+pub export_same : {s t : ExportTexts} → exporting s ≡ exporting t → s ≡ t
+export_same e = cc
 
 -- ---- words that clap takes or refuses
 
@@ -166,6 +177,12 @@ af_if taken words = if taken then af_request (af_value words (codes "kind")) (af
 abbrev pub lrat_if : Bool → List Text → Request
 lrat_if taken words = if taken then lrat_request (lrat_value words (codes "cnf")) (lrat_value words (codes "lrat")) else
     unknown
+
+-- what the words for the texts of a refutation ask for, by whether clap takes them
+abbrev pub export_if : Bool → List Text → Request
+export_if taken words = if taken then export_request (export_value words (codes "task")) (export_value words (codes
+    "number")) (export_value words (codes "file")) (export_value words (codes "answer")) (export_value words (codes
+    "certificate")) (export_value words (codes "refutation")) (export_value words (codes "output")) else unknown
 
 pub solve_is : (task file number budget certificate : Option Text)
     → IsOfSolve (solve_request task file number budget certificate)
@@ -265,6 +282,24 @@ pub of_lrat : (words : List Text) → IsOf (Some command.Lrat) (lrat_requested w
 unfolding lrat_requested
 of_lrat words = of_lrat_if (takes lrat_app words) words
 
+pub export_is : (task number file answer certificate refutation output : Option Text)
+    → IsOf (Some command.Export) (export_request task number file answer certificate refutation output)
+export_is None number file answer certificate refutation output = inl refl
+export_is (Some task) number None answer certificate refutation output = inl refl
+export_is (Some task) number (Some file) None certificate refutation output = inl refl
+export_is (Some task) number (Some file) (Some answer) None refutation output = inl refl
+export_is (Some task) number (Some file) (Some answer) (Some certificate) None output = inl refl
+export_is (Some task) number (Some file) (Some answer) (Some certificate) (Some refutation) None = inl refl
+export_is (Some task) number (Some file) (Some answer) (Some certificate) (Some refutation) (Some output) = inr refl
+
+pub of_export_if : (b : Bool) (words : List Text) → IsOf (Some command.Export) (export_if b words)
+of_export_if true words = export_is _ _ _ _ _ _ _
+of_export_if false words = inl refl
+
+pub of_export : (words : List Text) → IsOf (Some command.Export) (export_requested words)
+unfolding export_requested
+of_export words = of_export_if (takes export_app words) words
+
 -- what words that name no command ask for, by whether they are `--problems` alone
 abbrev pub other_if : Bool → List Text → Request
 other_if listed words = if listed then problems else solve_requested words
@@ -280,6 +315,7 @@ of_name (Some command.Bench) words more = of_bench more
 of_name (Some command.Names) words more = of_names more
 of_name (Some command.Af) words more = of_af more
 of_name (Some command.Lrat) words more = of_lrat more
+of_name (Some command.Export) words more = of_export more
 of_name None words more = of_other (words_are_problems words) words
 
 pub some_same : {X : Type 0} {x y : X} → Some x ≡ Some y → x ≡ y

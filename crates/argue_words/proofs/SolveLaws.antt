@@ -9,6 +9,7 @@ use Rattle.clap.specs.declared.error.Error.{Error}
 use Rattle.clap.specs.declared.parser.matches.ArgMatches.{ArgMatches}
 use Rattle.clap.proofs.WalkLemmas.{first_value-rows}
 use Rattle.argue_words.specs.Words.{af_app, af_value, bench_app, bench_value, check_app, check_value, live_app, live_value}
+use Rattle.argue_words.specs.Words.{export_app, export_value}
 use Rattle.argue_words.specs.Words.{lrat_app, lrat_value, named_app, names_app, names_value, option_of, script_app, solve_app, solve_value}
 use Rattle.argue_words.specs.Words.{task_app, value_option}
 use Rattle.argue_words.proofs.NoFault.{takes_if}
@@ -192,6 +193,25 @@ pub lrat_values_at : (app : App) (words : List Text) (r : Result ArgMatches Erro
     → IfOk r (HasMatchesOf app words)
     → IfOk r (λ m. (id : Text) → first_value (found_of m) id ≡ lrat_value words id)
 lrat_values_at app words r is = values_of lrat_app lrat_is_plain_app app is words r
+
+-- ---- the words for the texts of a refutation
+
+export_is_plain_app : IsPlain export_app
+unfolding export_app check_app task_app
+export_is_plain_app = record {
+  simple = refl;
+  free = refl;
+  whole = λ words e. takes_if export_app words refl refl refl refl e;
+}
+
+pub export_taken_at : {T : Type 0} (app : App) (words : List Text) (r : Result T Error) → app ≡ export_app
+    → (is_simple_and_free app ≡ true → FailsBy (fault_of app words) r) → IfOk r (λ _. takes export_app words ≡ true)
+export_taken_at app words r is = taken_of export_app export_is_plain_app app is words r
+
+pub export_values_at : (app : App) (words : List Text) (r : Result ArgMatches Error) → app ≡ export_app
+    → IfOk r (HasMatchesOf app words)
+    → IfOk r (λ m. (id : Text) → first_value (found_of m) id ≡ export_value words id)
+export_values_at app words r is = values_of export_app export_is_plain_app app is words r
 
 -- ---- how the commands are made
 

@@ -11,7 +11,7 @@ use Rattle.clap.proofs.OnLiterals.{clap_on_literals}
 use Rattle.argue_words.specs.declared.words.CommandName.{CommandName}
 use Rattle.argue_words.specs.declared.words.CommandName.TheVariants as command
 use Rattle.argue_words.specs.Words.{AreUnknown, IsAfQuery, IsBenchQuery, IsCheckQuery, IsLiveQuery, IsLratQuery}
-use Rattle.argue_words.specs.Words.{IsNamesQuery, lrat_app}
+use Rattle.argue_words.specs.Words.{IsNamesQuery, lrat_app, IsExportQuery, export_app}
 use Rattle.argue_words.specs.Words.{IsSolveQuery, SolveTexts, af_app, bench_app, check_app, command_named, live_app}
 use Rattle.argue_words.specs.Words.{named_app, names_app, script_app, solve_app, task_app, words_are_problems}
 use Rattle.argue_words.proofs.RequestNames.{no_name_in}
@@ -214,6 +214,37 @@ pub lrat_with_both : IsLratQuery (codes "lrat" ∷ lrat_words) (record { cnf = c
 unfolding clap_on_literals lrat_app
 lrat_with_both = record { rest = lrat_words; words_are = refl; has = record { taken = refl; cnf = refl; lrat = refl } }
 
+abbrev export_words : List Text
+export_words = codes "-o" ∷ codes "a" ∷ codes "-i" ∷ codes "0" ∷ codes "-p" ∷ codes "DS-PR" ∷ codes "-f" ∷ codes "a.af"
+    ∷ codes "-r" ∷ codes "a.out" ∷ codes "-c" ∷ codes "a.cert" ∷ codes "-a" ∷ codes "3" ∷ []
+
+pub export_with_all : IsExportQuery (codes "export" ∷ export_words) (record {
+  check = record {
+    task = codes "DS-PR";
+    number = Some (codes "3");
+    file = codes "a.af";
+    answer = codes "a.out";
+    certificate = codes "a.cert";
+  };
+  refutation = codes "0";
+  output = codes "a";
+})
+unfolding clap_on_literals export_app check_app task_app
+export_with_all = record {
+  rest = export_words;
+  words_are = refl;
+  has = record {
+    taken = refl;
+    task = refl;
+    number = refl;
+    file = refl;
+    answer = refl;
+    certificate = refl;
+    refutation = refl;
+    output = refl;
+  };
+}
+
 abbrev bench_words : List Text
 bench_words = codes "-x" ∷ codes "7" ∷ codes "-n" ∷ codes "40" ∷ []
 
@@ -235,6 +266,7 @@ refused words some none listed e = record {
   no_names = λ texts query. no_name_in words query.rest command.Names (λ is. unnamed words _ none is) query.words_are;
   no_af = λ texts query. no_name_in words query.rest command.Af (λ is. unnamed words _ none is) query.words_are;
   no_lrat = λ texts query. no_name_in words query.rest command.Lrat (λ is. unnamed words _ none is) query.words_are;
+  no_export = λ texts query. no_name_in words query.rest command.Export (λ is. unnamed words _ none is) query.words_are;
   others = λ _. record {
     no_list = λ is. true≢false (sym is ∙ listed);
     refused = λ taken. true≢false (sym taken ∙ e);

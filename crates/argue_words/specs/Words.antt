@@ -7,12 +7,13 @@ use Rattle.clap.specs.Words.{with_rule}
 use Rattle.clap.specs.declared.builder.ArgAction.TheVariants.{Set}
 use Rattle.argue_words.specs.declared.words.Command.{Command}
 use Rattle.argue_words.specs.declared.words.Command.TheVariants.{Version, Problems, Solve, Check, Live, Bench, Names, Af, Lrat}
-use Rattle.argue_words.specs.declared.words.Command.TheVariants.{Unknown}
+use Rattle.argue_words.specs.declared.words.Command.TheVariants.{Export, Unknown}
 use Rattle.argue_words.specs.declared.words.CommandName.{CommandName}
 use Rattle.argue_words.specs.declared.words.CommandName.TheVariants as command
 use Rattle.argue_words.specs.declared.words.AfWords.{AfWords}
 use Rattle.argue_words.specs.declared.words.BenchWords.{BenchWords}
 use Rattle.argue_words.specs.declared.words.CheckWords.{CheckWords}
+use Rattle.argue_words.specs.declared.words.ExportWords.{ExportWords}
 use Rattle.argue_words.specs.declared.words.LiveWords.{LiveWords}
 use Rattle.argue_words.specs.declared.words.LratWords.{LratWords}
 use Rattle.argue_words.specs.declared.words.NamesWords.{NamesWords}
@@ -80,6 +81,11 @@ af_app = with_rule (with_rule bare_app (value_option (codes "file") 102)) (value
 unfoldable pub lrat_app : App
 lrat_app = with_rule (with_rule bare_app (value_option (codes "cnf") 100)) (value_option (codes "lrat") 108)
 
+-- the command of a check's options and besides these `-i REFUTATION` and `-o OUTPUT`
+unfoldable pub export_app : App
+export_app = with_rule (with_rule check_app (value_option (codes "refutation") 105))
+    (value_option (codes "output") 111)
+
 -- ---- the names of commands
 
 -- the word that names a command
@@ -90,6 +96,7 @@ name_text command.Bench = codes "bench"
 name_text command.Names = codes "names"
 name_text command.Af = codes "af"
 name_text command.Lrat = codes "lrat"
+name_text command.Export = codes "export"
 
 -- the command that a word names, if it names one
 abbrev pub named : Text → Option CommandName
@@ -99,7 +106,8 @@ named word =
     else (if bytes_eq word (codes "bench") then Some command.Bench
     else (if bytes_eq word (codes "names") then Some command.Names
     else (if bytes_eq word (codes "af") then Some command.Af
-    else (if bytes_eq word (codes "lrat") then Some command.Lrat else None)))))
+    else (if bytes_eq word (codes "lrat") then Some command.Lrat
+    else (if bytes_eq word (codes "export") then Some command.Export else None))))))
 
 -- the command that the first word names
 abbrev pub command_named : List Text → Option CommandName
@@ -299,11 +307,41 @@ pub record IsLratQuery (words : List Text) (texts : LratTexts) : Type 0 where
   pub words_are : words ≡ codes "lrat" ∷ rest
   pub has : HasLratTexts rest texts
 
+-- ---- refutations as texts
+
+-- the texts for the texts of a refutation: those of a check, the number of the refutation, and the name that the files
+-- have before their endings
+pub record ExportTexts : Type 0 where
+  pub check : CheckTexts
+  pub refutation : Text
+  pub output : Text
+
+-- the value of an option of `export`
+abbrev pub export_value : List Text → Text → Option Text
+export_value words id = first_of id (matches_of export_app words)
+
+-- the words behind the command's name, which clap takes, have these texts
+pub record HasExportTexts (words : List Text) (texts : ExportTexts) : Type 0 where
+  pub taken : takes export_app words ≡ true
+  pub task : export_value words (codes "task") ≡ Some texts.check.task
+  pub number : export_value words (codes "number") ≡ texts.check.number
+  pub file : export_value words (codes "file") ≡ Some texts.check.file
+  pub answer : export_value words (codes "answer") ≡ Some texts.check.answer
+  pub certificate : export_value words (codes "certificate") ≡ Some texts.check.certificate
+  pub refutation : export_value words (codes "refutation") ≡ Some texts.refutation
+  pub output : export_value words (codes "output") ≡ Some texts.output
+
+-- the words ask for the texts of a refutation, with these texts
+pub record IsExportQuery (words : List Text) (texts : ExportTexts) : Type 0 where
+  pub rest : List Text
+  pub words_are : words ≡ codes "export" ∷ rest
+  pub has : HasExportTexts rest texts
+
 -- ---- all words
 
 -- the words are well-formed, whatever the task and the numbers: there is none, or they ask for the list of tasks, a
--- query, a check, a script's run, that of a large input, a query by names, a text with numbers or a check of a
--- refutation
+-- query, a check, a script's run, that of a large input, a query by names, a text with numbers, a check of a refutation
+-- or the texts of one
 pub data AreWords (words : List Text) : Type 0 where
   for_none : words ≡ [] → AreWords words
   for_list : words_are_problems words ≡ true → AreWords words
@@ -314,6 +352,7 @@ pub data AreWords (words : List Text) : Type 0 where
   for_names : (texts : NamesTexts) → IsNamesQuery words texts → AreWords words
   for_af : (texts : AfTexts) → IsAfQuery words texts → AreWords words
   for_lrat : (texts : LratTexts) → IsLratQuery words texts → AreWords words
+  for_export : (texts : ExportTexts) → IsExportQuery words texts → AreWords words
 
 -- the words aren't `--problems` alone, and clap refuses them for a query
 pub record RefusesOthers (words : List Text) : Type 0 where
@@ -330,6 +369,7 @@ pub record AreUnknown (words : List Text) : Type 0 where
   pub no_names : (texts : NamesTexts) → ¬ IsNamesQuery words texts
   pub no_af : (texts : AfTexts) → ¬ IsAfQuery words texts
   pub no_lrat : (texts : LratTexts) → ¬ IsLratQuery words texts
+  pub no_export : (texts : ExportTexts) → ¬ IsExportQuery words texts
   pub others : command_named words ≡ None → RefusesOthers words
 
 -- what words ask for: a row for each command
@@ -343,6 +383,7 @@ pub data Request : Type 0 where
   by_name : NamesTexts → Request
   numbering : AfTexts → Request
   verifying : LratTexts → Request
+  exporting : ExportTexts → Request
   unknown : Request
 
 -- what the values of a query's options ask for
@@ -384,6 +425,17 @@ abbrev pub lrat_request : Option Text → Option Text → Request
 lrat_request (Some cnf) (Some lrat) = verifying (record { cnf = cnf; lrat = lrat })
 lrat_request _ _ = unknown
 
+-- what the values of the options of `export` ask for
+abbrev pub export_request : Option Text → Option Text → Option Text → Option Text → Option Text → Option Text
+    → Option Text → Request
+export_request (Some task) number (Some file) (Some answer) (Some certificate) (Some refutation) (Some output) =
+    exporting (record {
+      check = record { task = task; number = number; file = file; answer = answer; certificate = certificate };
+      refutation = refutation;
+      output = output;
+    })
+export_request _ _ _ _ _ _ _ = unknown
+
 -- what the words behind `check` ask for
 unfoldable pub check_requested : List Text → Request
 check_requested words =
@@ -421,6 +473,14 @@ lrat_requested words =
     if takes lrat_app words then lrat_request (lrat_value words (codes "cnf")) (lrat_value words (codes "lrat"))
     else unknown
 
+-- what the words behind `export` ask for
+unfoldable pub export_requested : List Text → Request
+export_requested words =
+    if takes export_app words then export_request (export_value words (codes "task"))
+    (export_value words (codes "number")) (export_value words (codes "file")) (export_value words (codes "answer"))
+    (export_value words (codes "certificate")) (export_value words (codes "refutation"))
+    (export_value words (codes "output")) else unknown
+
 -- what the words of a query ask for
 unfoldable pub solve_requested : List Text → Request
 solve_requested words =
@@ -440,6 +500,7 @@ requested_by (Some command.Bench) words more = bench_requested more
 requested_by (Some command.Names) words more = names_requested more
 requested_by (Some command.Af) words more = af_requested more
 requested_by (Some command.Lrat) words more = lrat_requested more
+requested_by (Some command.Export) words more = export_requested more
 requested_by None words more = other_requested words
 
 -- what the words ask for: the version where there is none, what their command says, or else the list of tasks or a query
@@ -499,6 +560,14 @@ af_texts words = record { kind = words.kind.now; file = words.file.now }
 abbrev pub lrat_texts : LratWords → LratTexts
 lrat_texts words = record { cnf = words.cnf.now; lrat = words.lrat.now }
 
+-- the texts of the words for the texts of a refutation
+abbrev pub export_texts : ExportWords → ExportTexts
+export_texts words = record {
+  check = check_texts words.check;
+  refutation = words.refutation.now;
+  output = words.output.now;
+}
+
 -- what a command asks for
 abbrev pub request_of : Command → Request
 request_of Version = version
@@ -510,4 +579,5 @@ request_of (Bench words) = benching (bench_texts words)
 request_of (Names words) = by_name (names_texts words)
 request_of (Af words) = numbering (af_texts words)
 request_of (Lrat words) = verifying (lrat_texts words)
+request_of (Export words) = exporting (export_texts words)
 request_of Unknown = unknown

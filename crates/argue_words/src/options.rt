@@ -2,8 +2,8 @@
 
 ghost use Rattle.std.specs.Prelude.{◌≡◌, IfOk, codes, false};
 ghost use Rattle.clap.specs.Words.{app_of, rule_of, with_rule};
-ghost use Rattle.argue_words.specs.Words.{af_app, bare_app, bench_app, check_app, live_app, lrat_app, named_app, names_app};
-ghost use Rattle.argue_words.specs.Words.{option_of, script_app, solve_app, task_app};
+ghost use Rattle.argue_words.specs.Words.{af_app, bare_app, bench_app, check_app, export_app, live_app, lrat_app};
+ghost use Rattle.argue_words.specs.Words.{named_app, names_app, option_of, script_app, solve_app, task_app};
 
 use clap::{Arg, ArgAction, Command};
 use std::alloc::{AllocError, Global};
@@ -129,4 +129,17 @@ pub(crate) fn lrat_command<'a>(alloc: Global) -> Result<Command<'a>, AllocError>
 {
     let command = with_arg(bare_command(alloc), value_arg(alloc, "cnf", 'd', true))?;
     with_arg(command, value_arg(alloc, "lrat", 'l', true))
+}
+
+/// The command of the options of a check and of `-i REFUTATION` and `-o OUTPUT`, whose words begin after the name of the
+/// command.
+#[tactic(auto, unfolding(crate::specs::Words::export_app))]
+pub(crate) fn export_command<'a>(alloc: Global) -> Result<Command<'a>, AllocError>
+    ensures { IfOk result (λ c. app_of c ≡ export_app) }
+{
+    let command = with_arg(
+        check_command(alloc)?,
+        value_arg(alloc, "refutation", 'i', true),
+    )?;
+    with_arg(command, value_arg(alloc, "output", 'o', true))
 }

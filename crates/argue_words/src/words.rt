@@ -7,13 +7,14 @@ ghost use Rattle.argue_words.specs.Words.{AreUnknown, RefusesOthers, af_app, af_
 ghost use Rattle.argue_words.specs.Words.{bench_request, bench_requested, bench_value, check_app, check_request};
 ghost use Rattle.argue_words.specs.Words.{check_requested, check_value, live_app, live_request, live_requested, live_value};
 ghost use Rattle.argue_words.specs.Words.{named, names_app, names_request, names_requested, names_value, other_requested};
+ghost use Rattle.argue_words.specs.Words.{export_app, export_request, export_requested, export_value};
 ghost use Rattle.argue_words.specs.Words.{lrat_app, lrat_request, lrat_requested, lrat_value};
 ghost use Rattle.argue_words.specs.Words.{request_of, requested, solve_app, solve_request, solve_requested, solve_value};
 ghost use Rattle.argue_words.specs.Words.{words_are_problems};
 
 use crate::options::{
-    af_command, bench_command, check_command, live_command, lrat_command, names_command,
-    solve_command,
+    af_command, bench_command, check_command, export_command, live_command, lrat_command,
+    names_command, solve_command,
 };
 use clap::ArgMatches;
 use clap::error::ErrorKind;
@@ -29,6 +30,7 @@ pub enum CommandName {
     Names,
     Af,
     Lrat,
+    Export,
 }
 
 /// What the words ask for.
@@ -52,6 +54,8 @@ pub enum Command<'a> {
     Af(AfWords<'a>),
     /// A check of a refutation of a CNF.
     Lrat(LratWords<'a>),
+    /// The texts of a refutation of a certificate.
+    Export(ExportWords<'a>),
     /// Words that clap refuses.
     Unknown,
 }
@@ -128,6 +132,16 @@ pub struct LratWords<'a> {
     pub lrat: &'a str,
 }
 
+/// The words for the texts of a refutation of a certificate: those of a check of the certificate, which refutation is
+/// meant, and the name that the files of its texts have before their endings. Whether the refutation's words are a number,
+/// and whether the certificate has that refutation, is for the caller to see.
+#[derive(Clone, Copy, PartialEq, Eq)]
+pub struct ExportWords<'a> {
+    pub check: CheckWords<'a>,
+    pub refutation: &'a str,
+    pub output: &'a str,
+}
+
 /// Reads the words after the program's name. No words ask for the version, and `--problems` alone for the list of tasks.
 /// Else the first word names the command (`CommandName`), or the command is to solve; clap reads the options of its
 /// row in `options.rt`, each with one value, in any order. A command comes exactly where clap takes its options, and
@@ -148,6 +162,7 @@ pub fn read_words<'a>(alloc: Global, words: &'a [String]) -> Result<Command<'a>,
         Some(CommandName::Names) => read_names(alloc, rest),
         Some(CommandName::Af) => read_af(alloc, rest),
         Some(CommandName::Lrat) => read_lrat(alloc, rest),
+        Some(CommandName::Export) => read_export(alloc, rest),
         None => read_other(alloc, words),
     }
 }
@@ -173,6 +188,9 @@ fn named(word: &str) -> Option<CommandName>
     }
     if word == "lrat" {
         return Some(CommandName::Lrat);
+    }
+    if word == "export" {
+        return Some(CommandName::Export);
     }
     None
 }
@@ -267,6 +285,16 @@ fn read_lrat<'a>(alloc: Global, words: &'a [String]) -> Result<Command<'a>, Memo
     }
 }
 
+// What the words behind `export` ask for.
+fn read_export<'a>(alloc: Global, words: &'a [String]) -> Result<Command<'a>, Memory>
+    ensures request { IfOk result (λ c. request_of c ≡ export_requested (map string_bytes words.now)) }
+{
+    match export_matches(alloc, words) {
+        Ok(matches) => Ok(export_of(&matches)),
+        Err(error) => refusal(&error),
+    }
+}
+
 // What clap matches on the words of a query.
 fn solve_matches<'a>(alloc: Global, words: &'a [String]) -> Result<ArgMatches<'a>, clap::Error>
     ensures taken { IfOk result (λ _. takes solve_app (map string_bytes words.now) ≡ true) }
@@ -350,6 +378,18 @@ fn lrat_matches<'a>(alloc: Global, words: &'a [String]) -> Result<ArgMatches<'a>
         → kind_of e ≡ ErrorKind.OutOfMemory) }
 {
     let command = lrat_command(alloc)?;
+    command.try_get_matches_from(words)
+}
+
+// What clap matches on the words for the texts of a refutation.
+fn export_matches<'a>(alloc: Global, words: &'a [String]) -> Result<ArgMatches<'a>, clap::Error>
+    ensures taken { IfOk result (λ _. takes export_app (map string_bytes words.now) ≡ true) }
+    ensures values { IfOk result (λ m. (id : List ℕ)
+        → first_value (found_of m) id ≡ export_value (map string_bytes words.now) id) }
+    ensures refused { IfErr result (λ e. takes export_app (map string_bytes words.now) ≡ true
+        → kind_of e ≡ ErrorKind.OutOfMemory) }
+{
+    let command = export_command(alloc)?;
     command.try_get_matches_from(words)
 }
 
@@ -473,6 +513,48 @@ fn lrat_of<'a>(matches: &ArgMatches<'a>) -> Command<'a>
         return Command::Unknown;
     };
     Command::Lrat(LratWords { cnf, lrat })
+}
+
+// The texts of a refutation, of words that clap takes.
+fn export_of<'a>(matches: &ArgMatches<'a>) -> Command<'a>
+    ensures { request_of result ≡ export_request (first_value (found_of matches.now) (codes "task"))
+        (first_value (found_of matches.now) (codes "number")) (first_value (found_of matches.now) (codes "file"))
+        (first_value (found_of matches.now) (codes "answer"))
+        (first_value (found_of matches.now) (codes "certificate"))
+        (first_value (found_of matches.now) (codes "refutation"))
+        (first_value (found_of matches.now) (codes "output")) }
+{
+    let Some(task) = matches.get_str("task") else {
+        return Command::Unknown;
+    };
+    let number = matches.get_str("number");
+    let Some(file) = matches.get_str("file") else {
+        return Command::Unknown;
+    };
+    let Some(answer) = matches.get_str("answer") else {
+        return Command::Unknown;
+    };
+    let Some(certificate) = matches.get_str("certificate") else {
+        return Command::Unknown;
+    };
+    let Some(refutation) = matches.get_str("refutation") else {
+        return Command::Unknown;
+    };
+    let Some(output) = matches.get_str("output") else {
+        return Command::Unknown;
+    };
+    let check = CheckWords {
+        task,
+        number,
+        file,
+        answer,
+        certificate,
+    };
+    Command::Export(ExportWords {
+        check,
+        refutation,
+        output,
+    })
 }
 
 // The query of words that clap takes.

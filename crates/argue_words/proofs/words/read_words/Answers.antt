@@ -46,3 +46,10 @@ returns-in-Some-Lrat-clause-unknown c =
     named_unknown (map string_bytes c.args.words.now) (map string_bytes c.in-Some.rest.now)
     (string_bytes c.in-Some.first.now) command.Lrat c.read_lrat.result (search rules)
     (ap named (sym c.as_str.ensures.value) ∙ sym c.named.ensures ∙ c.in-Some-Lrat.is ∙ ap Some is) c.read_lrat.ensures.request
+
+pub returns-in-Some-Export-clause-unknown : goal.returns-in-Some-Export-clause-unknown
+returns-in-Some-Export-clause-unknown c =
+    let is : c.in-Some-Export.field-0 ≡ command.Export = search rules in
+    named_unknown (map string_bytes c.args.words.now) (map string_bytes c.in-Some.rest.now)
+    (string_bytes c.in-Some.first.now) command.Export c.read_export.result (search rules)
+    (ap named (sym c.as_str.ensures.value) ∙ sym c.named.ensures ∙ c.in-Some-Export.is ∙ ap Some is) c.read_export.ensures.request
