@@ -23,7 +23,7 @@ use Rattle.certificate_text.proofs.OneOutcome.{one_reading}
 use Rattle.certificate_claims.specs.declared.certificate.Certificate.{Certificate}
 use Rattle.certificate_text.specs.declared.fault.CertFault.{CertFault}
 use Rattle.certificate_text.specs.declared.fault.CertFault.TheVariants as certificate_fault
-use Rattle.argue_commands.specs.Checks.{CheckEnds, ChecksFiles, EndsChecking, HasCheckBytes, IsChecked}
+use Rattle.argue_commands.specs.Checks.{AcceptsFiles, CheckEnds, ChecksFiles, EndsChecking, HasCheckBytes, IsChecked}
 use Rattle.argue_commands.specs.Checks.{IsTextFault, answer_status, certificate_status, check_inputs}
 use Rattle.argue_commands.specs.Inputs.{EndsReading, Follow, Input, IsRead, IsSoundIn, IsUnrefused, Passes}
 use Rattle.argue_commands.specs.Inputs.{Reading, StopsAt, StopsAtFirst, StopsReading, input, status_of_fault}
@@ -33,7 +33,7 @@ use Rattle.argue_commands.specs.declared.checking.Checked.{Checked}
 use Rattle.edit_rules.specs.Kinds.{framework_of}
 use Rattle.argue_commands.specs.declared.ended.FaultCause.TheVariants as cause
 use Rattle.argue_commands.specs.declared.ended.Limit.TheVariants as limit
-use Rattle.argue_commands.specs.declared.ended.Refusal.TheVariants.{Line, Query, UnknownName}
+use Rattle.argue_commands.specs.declared.ended.Refusal.TheVariants.{Line, NoRefutation, Query, UnknownName}
 use Rattle.argue_commands.specs.declared.ended.Status.{Status}
 use Rattle.argue_commands.specs.declared.ended.Status.TheVariants.{Done, Usage, InputRefused, ReadFault}
 use Rattle.argue_commands.specs.declared.ended.Status.TheVariants.{WriteFault, WantOfMemory, Unknown, Limit}
@@ -87,6 +87,7 @@ still_stops h S S' c n one (InputRefused (Line of line cause)) still stops =
     (stops.0, record { bytes = stops.1.bytes; has = stops.1.has; first = stops.1.first })
 still_stops h S S' c n one (InputRefused (Query fault)) still stops = absurd stops
 still_stops h S S' c n one (InputRefused UnknownName) still stops = absurd stops
+still_stops h S S' c n one (InputRefused (NoRefutation k)) still stops = absurd stops
 still_stops h S S' c n one (ReadFault of) still stops =
     (stops.0, record { counted = stops.1.counted; unserved = λ served. stops.1.unserved (still one.file served) })
 still_stops h S S' c n one (Limit limit.Input) still stops = stops
@@ -207,6 +208,7 @@ text_stops found texts bytes (InputRefused (Line of line c)) has (inr (inr third
     ))
 text_stops found texts bytes (InputRefused (Query fault)) has is = absurd is
 text_stops found texts bytes (InputRefused UnknownName) has is = absurd is
+text_stops found texts bytes (InputRefused (NoRefutation k)) has is = absurd is
 text_stops found texts bytes WantOfMemory has is = inr refl
 text_stops found texts bytes Unknown has is = absurd is
 text_stops found texts bytes Done has is = absurd is
@@ -264,12 +266,30 @@ checks_from holds asked texts bytes read end has is ends = record {
   ends = ends;
 }
 
-pub judged_ok : {T : Type 0} (holds : List ℕ → KnownFile) (asked : Asked) (texts : CheckTexts) (bytes : CheckBytes)
-    (read : Checked) (r : Result T Status) → HasCheckBytes holds texts bytes → IsChecked bytes read
-    → OnOk r (CheckEnds (framework_of read.framework) asked read.answer read.certificate Done)
-    → OnOk r (ChecksFiles holds asked texts Done)
-judged_ok holds asked texts bytes read (Ok x) has is ends = checks_from holds asked texts bytes read Done has is ends
-judged_ok holds asked texts bytes read (Err e) has is ends = tt
+-- what was read, accepted
+pub accepts_from : (holds : List ℕ → KnownFile) (asked : Asked) (texts : CheckTexts) (bytes : CheckBytes)
+    (read : Checked) → HasCheckBytes holds texts bytes → IsChecked bytes read
+    → CheckEnds (framework_of read.framework) asked read.answer read.certificate Done
+    → AcceptsFiles holds asked texts read
+accepts_from holds asked texts bytes read has is ends = record {
+  of_framework = record { bytes = bytes.framework; has = has.framework; reads = is.of_framework };
+  of_answer = record { bytes = bytes.answer; has = has.answer; reads = is.of_answer };
+  of_certificate = record { bytes = bytes.certificate; has = has.certificate; reads = is.of_certificate };
+  accepts = ends;
+}
+
+-- an accepted certificate ends the check so
+pub checks_accepted : (holds : List ℕ → KnownFile) (asked : Asked) (texts : CheckTexts) (read : Checked)
+    → AcceptsFiles holds asked texts read → ChecksFiles holds asked texts Done
+checks_accepted holds asked texts read accepts = record {
+  framework = framework_of read.framework;
+  answer = read.answer;
+  certificate = read.certificate;
+  of_framework = accepts.of_framework;
+  of_answer = accepts.of_answer;
+  of_certificate = accepts.of_certificate;
+  ends = accepts.accepts;
+}
 
 pub judged_err : {T : Type 0} (found : Reading) (asked : Asked) (texts : CheckTexts) (bytes : CheckBytes)
     (read : Checked) (r : Result T Status) → HasCheckBytes found.holds texts bytes → IsChecked bytes read

@@ -17,7 +17,7 @@ use Rattle.script_text.proofs.FirstFaults.{script_is_faultless}
 use Rattle.argue_commands.specs.Inputs.{Input, IsRead, IsSoundIn, Reading, StopsReading, input, status_of_fault}
 use Rattle.argue_commands.specs.Opening.{HasLiveBytes, IsLiveFault, IsOpened, OpensFiles, live_inputs, script_status}
 use Rattle.argue_commands.specs.declared.ended.FaultCause.TheVariants as cause
-use Rattle.argue_commands.specs.declared.ended.Refusal.TheVariants.{Line, Query, UnknownName}
+use Rattle.argue_commands.specs.declared.ended.Refusal.TheVariants.{Line, NoRefutation, Query, UnknownName}
 use Rattle.argue_commands.specs.declared.ended.Status.{Status}
 use Rattle.argue_commands.specs.declared.ended.Status.TheVariants.{Done, Usage, InputRefused, ReadFault}
 use Rattle.argue_commands.specs.declared.ended.Status.TheVariants.{WriteFault, WantOfMemory, Unknown, Limit}
@@ -76,6 +76,7 @@ live_fault_stops found texts bytes (InputRefused (Line of line c)) has (inr seco
     ))
 live_fault_stops found texts bytes (InputRefused (Query fault)) has is = absurd is
 live_fault_stops found texts bytes (InputRefused UnknownName) has is = absurd is
+live_fault_stops found texts bytes (InputRefused (NoRefutation k)) has is = absurd is
 live_fault_stops found texts bytes WantOfMemory has is = inr refl
 live_fault_stops found texts bytes Unknown has is = absurd is
 live_fault_stops found texts bytes Done has is = absurd is

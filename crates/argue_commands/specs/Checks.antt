@@ -64,6 +64,14 @@ pub record ChecksFiles (holds : List ℕ → KnownFile) (asked : Asked) (texts :
   pub of_certificate : IsCertificateOf (holds texts.certificate) certificate
   pub ends : CheckEnds framework asked answer certificate end
 
+-- the files read as these, and the certificate is accepted
+pub record AcceptsFiles (holds : List ℕ → KnownFile) (asked : Asked) (texts : CheckTexts) (read : Checked) : Type 0
+  where
+    pub of_framework : IsFrameworkOf (holds texts.file) (framework_of read.framework)
+    pub of_answer : IsAnswerOf (holds texts.answer) read.answer
+    pub of_certificate : IsCertificateOf (holds texts.certificate) read.certificate
+    pub accepts : CheckEnds (framework_of read.framework) asked read.answer read.certificate Done
+
 -- ---- the parts of a check
 
 -- the bytes are those of the files

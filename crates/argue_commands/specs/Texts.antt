@@ -19,7 +19,7 @@ use Rattle.argue_commands.specs.declared.ended.FaultCause.TheVariants as cause
 use Rattle.argue_commands.specs.declared.ended.Limit.{Limit}
 use Rattle.argue_commands.specs.declared.ended.Limit.TheVariants as limit
 use Rattle.argue_commands.specs.declared.ended.Refusal.{Refusal}
-use Rattle.argue_commands.specs.declared.ended.Refusal.TheVariants.{Line, Query, UnknownName}
+use Rattle.argue_commands.specs.declared.ended.Refusal.TheVariants.{Line, NoRefutation, Query, UnknownName}
 use Rattle.argue_commands.specs.declared.ended.Rejection.{Rejection}
 use Rattle.argue_commands.specs.declared.ended.Rejection.TheVariants.{Certificate as OfCertificate, Step as OfStep, NoEmptyClause}
 use Rattle.argue_commands.specs.declared.ended.Status.{Status}
@@ -74,6 +74,7 @@ refusal_text (Line role line cause) =
     codes "error: " ++ (role_text role ++ (codes " line " ++ (decimal line ++ (32 ∷ (cause_text cause ++ 10 ∷ [])))))
 refusal_text (Query fault) = query_line (fault_name fault) (fault_number fault)
 refusal_text UnknownName = query_line (codes "UnknownName") None
+refusal_text (NoRefutation k) = query_line (codes "NoRefutation") (Some k)
 
 -- the line of a certificate that isn't accepted: why, and where
 abbrev pub failure_line : Failure → ℕ → ℕ → List ℕ

@@ -5,8 +5,8 @@ ghost use Rattle.argue_outside.specs.declared.Role.{Role as ARole};
 ghost use Rattle.argue_words.specs.Words.{check_texts};
 ghost use Rattle.edit_rules.specs.Kinds.{framework_of};
 ghost use Rattle.num_text.specs.declared.limit.TheConstants.{MAX_INPUT};
-ghost use Rattle.argue_commands.specs.Checks.{CheckEnds, ChecksFiles, EndsChecking, HasCheckBytes, IsChecked};
-ghost use Rattle.argue_commands.specs.Checks.{IsTextFault, answer_status, certificate_status, check_inputs};
+ghost use Rattle.argue_commands.specs.Checks.{AcceptsFiles, CheckEnds, ChecksFiles, EndsChecking, HasCheckBytes};
+ghost use Rattle.argue_commands.specs.Checks.{IsChecked, IsTextFault, answer_status, certificate_status, check_inputs};
 ghost use Rattle.argue_commands.specs.Inputs.{StopsReading, reading};
 ghost use Rattle.argue_commands.specs.Texts.{common_text};
 
@@ -44,7 +44,7 @@ impl Drop for CheckBytes {
 }
 
 /// What the files of a check read as.
-pub(crate) struct Checked {
+pub struct Checked {
     pub framework: Framework,
     pub answer: Answer,
     pub certificate: Certificate,
@@ -174,6 +174,43 @@ fn judge(alloc: Global, query: &Query, read: &Checked) -> Result<(), Status>
     }
 }
 
+/// Checks the answer in one file with the certificate in another, on the framework in a third. What the files read as
+/// where the certificate is accepted, else how the run ends.
+pub fn read_accepted<F: Files>(
+    alloc: Global,
+    files: &mut F,
+    query: &Query,
+    words: &CheckWords<'_>,
+) -> Result<Checked, Status>
+    ensures ok { IfOk result (AcceptsFiles (F.holds files.old) query.now (check_texts words.now)) }
+    ensures err { IfErr result
+        (EndsChecking (reading F.Files files.old files.new) query.now (check_texts words.now)) }
+    ensures told { IfErr result (λ end. IsSome (common_text end)) }
+    ensures quiet { ((role : ARole) → IsErrOf result (Status.ReadFault role) → ⊥)
+        → F.read_count files.new ≡ F.read_count files.old }
+    ensures others { (role : ARole) → role ≢ Role.Framework 1 → role ≢ Role.Answer → role ≢ Role.Certificate
+        → F.read_count files.new role ≡ F.read_count files.old role }
+    ensures same { F.holds files.new ≡ F.holds files.old }
+    ensures writes { F.write_count files.new ≡ F.write_count files.old }
+{
+    let bytes = match read_files(alloc, files, words) {
+        Ok(bytes) => bytes,
+        Err(end) => return Err(end),
+    };
+    let read = match parse(alloc, &bytes) {
+        Ok(read) => read,
+        Err(end) => return Err(end),
+    };
+    match judge(alloc, query, &read) {
+        Ok(()) => Ok(read),
+        Err(end) => {
+            // The run ends here: to take millions of lists back one by one would cost it a twentieth of its time.
+            forget(read);
+            Err(end)
+        }
+    }
+}
+
 /// Checks the answer in one file with the certificate in another, on the framework in a third. `Ok` where the
 /// certificate is accepted, else how the run ends.
 pub fn check_files<F: Files>(
@@ -193,16 +230,12 @@ pub fn check_files<F: Files>(
     ensures same { F.holds files.new ≡ F.holds files.old }
     ensures writes { F.write_count files.new ≡ F.write_count files.old }
 {
-    let bytes = match read_files(alloc, files, words) {
-        Ok(bytes) => bytes,
-        Err(end) => return Err(end),
-    };
-    let read = match parse(alloc, &bytes) {
-        Ok(read) => read,
-        Err(end) => return Err(end),
-    };
-    let end = judge(alloc, query, &read);
-    // The run ends here: to take millions of lists back one by one would cost it a twentieth of its time.
-    forget(read);
-    end
+    match read_accepted(alloc, files, query, words) {
+        Ok(read) => {
+            // The run ends here, as above.
+            forget(read);
+            Ok(())
+        }
+        Err(end) => Err(end),
+    }
 }

@@ -42,6 +42,8 @@ pub enum Refusal {
     Query(QueryFault),
     /// No argument has the name that the query asks about.
     UnknownName,
+    /// The certificate has no refutation of this number, counted from 1.
+    NoRefutation(u32),
 }
 
 /// Why what was to be checked isn't accepted.

@@ -129,6 +129,9 @@ fn refusal_line(alloc: Global, refusal: Refusal) -> Result<String, Memory>
         }
         Refusal::Query(fault) => query_fault_line(alloc, fault),
         Refusal::UnknownName => Ok(String::from_str(alloc, "error: query UnknownName\n")?),
+        Refusal::NoRefutation(number) => {
+            Ok(format!(in alloc; "error: query NoRefutation {number}\n")?)
+        }
     }
 }
 

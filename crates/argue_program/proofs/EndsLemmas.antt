@@ -43,7 +43,7 @@ use Rattle.script_text.proofs.OneScript.{script_same}
 use Rattle.script_text.specs.ScriptText.{IsScript}
 use Rattle.script_text.specs.declared.script.Script.{Script}
 use Rattle.argue_commands.specs.declared.ended.Limit.TheVariants as limit
-use Rattle.argue_commands.specs.declared.ended.Refusal.TheVariants.{Line, Query, UnknownName}
+use Rattle.argue_commands.specs.declared.ended.Refusal.TheVariants.{Line, NoRefutation, Query, UnknownName}
 use Rattle.argue_commands.specs.declared.ended.Status.{Status}
 use Rattle.argue_commands.specs.declared.ended.Status.TheVariants.{Done, Usage, InputRefused, ReadFault}
 use Rattle.argue_commands.specs.declared.ended.Status.TheVariants.{WriteFault, WantOfMemory, Unknown, Limit}
@@ -121,6 +121,12 @@ module _ (found : Reading) (words : List (List ℕ)) (texts : SolveTexts) (query
       not_name (inl stops) = stops
       not_name (inr (inl is)) = absurd (cc)
       not_name (inr (inr solved)) = unread (InputRefused UnknownName) solved faulty
+  refuses_bytes (InputRefused (NoRefutation k)) faulty short ends = not_number (ends (λ e. cc))
+    where
+      not_number : EndsQuery found texts query kept (InputRefused (NoRefutation k)) → ⊥
+      not_number (inl stops) = stops
+      not_number (inr (inl is)) = absurd (cc)
+      not_number (inr (inr solved)) = unread (InputRefused (NoRefutation k)) solved faulty
   refuses_bytes (InputRefused (Line r line c)) faulty short ends = at_first (ends (λ e. cc))
     where
       at_first : EndsQuery found texts query kept (InputRefused (Line r line c))
@@ -196,6 +202,12 @@ module _ (found : Reading) (words : List (List ℕ)) (texts : SolveTexts) (query
       not_name (inl stops) = stops
       not_name (inr (inl is)) = absurd (cc)
       not_name (inr (inr solved)) = too_long_for (InputRefused UnknownName) solved long
+  refuses_length (InputRefused (NoRefutation k)) long ends = not_number (ends (λ e. cc))
+    where
+      not_number : EndsQuery found texts query kept (InputRefused (NoRefutation k)) → ⊥
+      not_number (inl stops) = stops
+      not_number (inr (inl is)) = absurd (cc)
+      not_number (inr (inr solved)) = too_long_for (InputRefused (NoRefutation k)) solved long
   refuses_length (InputRefused (Line r line c)) long ends = not_line (ends (λ e. cc))
     where
       not_line : EndsQuery found texts query kept (InputRefused (Line r line c)) → ⊥
@@ -321,6 +333,7 @@ no_stop found one P sound has (InputRefused (Line of line c)) stops =
     (bytes_at (found.holds one.file) has.bytes stops.1.bytes has.known stops.1.has) stops.1.first)
 no_stop found one P sound has (InputRefused (Query fault)) stops = stops
 no_stop found one P sound has (InputRefused UnknownName) stops = stops
+no_stop found one P sound has (InputRefused (NoRefutation k)) stops = stops
 no_stop found one P sound has (ReadFault of) stops =
     ⊎_elim (λ served. stops.1.unserved served) (λ uncounted. uncounted stops.1.counted) has.no_fault
 no_stop found one P sound has (Limit limit.Input) stops =
@@ -522,6 +535,7 @@ module _ (found : Reading) (words : List (List ℕ)) (texts : LiveTexts) (budget
       (stops.0, first_at found (input OfScript texts.script) bytes line c asks.known stops.1)
   stops_at_script (InputRefused (Query fault)) short stops = stops
   stops_at_script (InputRefused UnknownName) short stops = stops
+  stops_at_script (InputRefused (NoRefutation k)) short stops = stops
   stops_at_script (ReadFault of) short stops = absurd (script_read stops.1)
   stops_at_script (Limit limit.Input) short stops =
       let long = longer_at (found.holds texts.script) bytes asks.known stops in absurd (omega arith)
@@ -553,6 +567,7 @@ module _ (found : Reading) (words : List (List ℕ)) (texts : LiveTexts) (budget
       (omega arith)
   stops_at_length (InputRefused (Query fault)) long stops = stops
   stops_at_length (InputRefused UnknownName) long stops = stops
+  stops_at_length (InputRefused (NoRefutation k)) long stops = stops
   stops_at_length (ReadFault of) long stops = absurd (script_read stops.1)
   stops_at_length (Limit limit.Input) long stops = tt
   stops_at_length (Limit limit.Extensions) long stops = stops

@@ -12,7 +12,7 @@ use Rattle.argue_commands.specs.Inputs.{HasReadFault, IsSoundOf, Reading, StopsA
 use Rattle.argue_commands.specs.Texts.{IsRefusal, common_text, text_bytes}
 use Rattle.argue_commands.specs.declared.ended.FaultCause.TheVariants as cause
 use Rattle.argue_commands.specs.declared.ended.Limit.TheVariants as limit
-use Rattle.argue_commands.specs.declared.ended.Refusal.TheVariants.{Line, Query, UnknownName}
+use Rattle.argue_commands.specs.declared.ended.Refusal.TheVariants.{Line, NoRefutation, Query, UnknownName}
 use Rattle.argue_commands.specs.declared.ended.Status.{Status}
 use Rattle.argue_commands.specs.declared.ended.Status.TheVariants.{Done, Usage, InputRefused, ReadFault, WriteFault}
 use Rattle.argue_commands.specs.declared.ended.Status.TheVariants.{WantOfMemory, Unknown, Limit, Rejected}
@@ -155,6 +155,7 @@ module _ (found : Reading) (words : List (List ℕ)) (texts : LratTexts) (bytes 
       (stops.0, first_at found (input role.Cnf texts.cnf) bytes line c asks.known stops.1)
   stops_at_cnf (InputRefused (Query fault)) short stops = stops
   stops_at_cnf (InputRefused UnknownName) short stops = stops
+  stops_at_cnf (InputRefused (NoRefutation k)) short stops = stops
   stops_at_cnf (ReadFault of) short stops = absurd (cnf_read stops.1)
   stops_at_cnf (Limit limit.Input) short stops =
       let long = longer_at (found.holds texts.cnf) bytes asks.known stops in absurd (omega arith)
@@ -197,6 +198,7 @@ module _ (found : Reading) (words : List (List ℕ)) (texts : LratTexts) (bytes 
       let short = within_at (found.holds texts.cnf) bytes stops.1.bytes asks.known stops.1.has in absurd (omega arith)
   stops_at_length (InputRefused (Query fault)) long stops = stops
   stops_at_length (InputRefused UnknownName) long stops = stops
+  stops_at_length (InputRefused (NoRefutation k)) long stops = stops
   stops_at_length (ReadFault of) long stops = absurd (cnf_read stops.1)
   stops_at_length (Limit limit.Input) long stops = tt
   stops_at_length (Limit limit.Extensions) long stops = stops

@@ -13,7 +13,7 @@ use Rattle.argue_commands.specs.Inputs.{HasReadFault, IsSoundOf, Reading, StopsA
 use Rattle.argue_commands.specs.Solves.{IsSessionOf}
 use Rattle.argue_commands.specs.declared.ended.FaultCause.TheVariants as cause
 use Rattle.argue_commands.specs.declared.ended.Limit.TheVariants as limit
-use Rattle.argue_commands.specs.declared.ended.Refusal.TheVariants.{Line, Query, UnknownName}
+use Rattle.argue_commands.specs.declared.ended.Refusal.TheVariants.{Line, NoRefutation, Query, UnknownName}
 use Rattle.argue_commands.specs.declared.ended.Status.{Status}
 use Rattle.argue_commands.specs.declared.ended.Status.TheVariants.{Done, Usage, InputRefused, ReadFault, WriteFault}
 use Rattle.argue_commands.specs.declared.ended.Status.TheVariants.{WantOfMemory, Unknown, Limit, Rejected}
@@ -213,6 +213,7 @@ module _ (found : Reading) (format : NameFormat) (file bytes : List ℕ) (known 
       (stops.0, first_at found (named_input format file) bytes line c known stops.1)
   stops_at_line (InputRefused (Query fault)) short stops = stops
   stops_at_line (InputRefused UnknownName) short stops = stops
+  stops_at_line (InputRefused (NoRefutation k)) short stops = stops
   stops_at_line (ReadFault of) short stops = absurd (read stops.1)
   stops_at_line (Limit limit.Input) short stops =
       let long = longer_at (found.holds file) bytes known stops in absurd (omega arith)
@@ -241,6 +242,7 @@ module _ (found : Reading) (format : NameFormat) (file bytes : List ℕ) (known 
       let short = within_at (found.holds file) bytes stops.1.bytes known stops.1.has in absurd (omega arith)
   stops_at_length (InputRefused (Query fault)) long stops = stops
   stops_at_length (InputRefused UnknownName) long stops = stops
+  stops_at_length (InputRefused (NoRefutation k)) long stops = stops
   stops_at_length (ReadFault of) long stops = absurd (read stops.1)
   stops_at_length (Limit limit.Input) long stops = tt
   stops_at_length (Limit limit.Extensions) long stops = stops

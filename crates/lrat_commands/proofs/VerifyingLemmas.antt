@@ -14,7 +14,7 @@ use Rattle.lrat_text.specs.declared.fault.LratFault.TheVariants as lrat_fault
 use Rattle.lrat_text.proofs.OneReading.{told_unsatisfiable}
 use Rattle.argue_commands.specs.Inputs.{EndsReading, Input, IsRead, IsUnrefused, Reading, StopsReading, input}
 use Rattle.argue_commands.specs.Texts.{common_text}
-use Rattle.argue_commands.specs.declared.ended.Refusal.TheVariants.{Line, Query, UnknownName}
+use Rattle.argue_commands.specs.declared.ended.Refusal.TheVariants.{Line, NoRefutation, Query, UnknownName}
 use Rattle.argue_commands.specs.declared.ended.Status.{Status}
 use Rattle.argue_commands.specs.declared.ended.Status.TheVariants.{Done, Usage, InputRefused, ReadFault, WriteFault}
 use Rattle.argue_commands.specs.declared.ended.Status.TheVariants.{WantOfMemory, Unknown, Limit, Rejected}
@@ -66,6 +66,7 @@ module _ (found : Reading) (texts : LratTexts) (bytes : LratBytes) (has : HasLra
       inl (inl ((stops.0, record { bytes = bytes.cnf; has = has.cnf; first = stops.1 }), lrat_behind))
   cnf_ends (InputRefused (Query fault)) stops = absurd stops
   cnf_ends (InputRefused UnknownName) stops = absurd stops
+  cnf_ends (InputRefused (NoRefutation k)) stops = absurd stops
   cnf_ends WantOfMemory stops = inr (inl refl)
   cnf_ends Done stops = absurd stops
   cnf_ends Usage stops = absurd stops

@@ -17,7 +17,7 @@ use Rattle.argue_commands.specs.Inputs.{EndsReading, HasBytes, IsUnrefused, Read
 use Rattle.argue_commands.specs.Texts.{common_text}
 use Rattle.argue_commands.specs.declared.ended.KeptSession.{KeptSession}
 use Rattle.argue_commands.specs.declared.ended.Limit.TheVariants as limit
-use Rattle.argue_commands.specs.declared.ended.Refusal.TheVariants.{Line, Query, UnknownName}
+use Rattle.argue_commands.specs.declared.ended.Refusal.TheVariants.{Line, NoRefutation, Query, UnknownName}
 use Rattle.argue_commands.specs.declared.ended.Status.{Status}
 use Rattle.argue_commands.specs.declared.ended.Status.TheVariants.{Done, Usage, InputRefused, ReadFault, WriteFault}
 use Rattle.argue_commands.specs.declared.ended.Status.TheVariants.{WantOfMemory, Unknown, Limit, Rejected}
@@ -107,6 +107,7 @@ module _ (found : Reading) (file bytes : List ℕ) (has : HasBytes (found.holds 
       let has' = subst (λ path. HasBytes (found.holds path) bytes) (sym same) has in
       inr (refl, record { bytes = bytes; has = has'; asks = stops })
   text_ends naming texts (InputRefused (Query fault)) same stops = absurd stops
+  text_ends naming texts (InputRefused (NoRefutation k)) same stops = absurd stops
   text_ends naming texts WantOfMemory same stops = inl (inr refl)
   text_ends naming texts Done same stops = absurd stops
   text_ends naming texts Usage same stops = absurd stops
@@ -127,6 +128,7 @@ module _ (found : Reading) (file bytes : List ℕ) (has : HasBytes (found.holds 
   numbering_ends format (InputRefused (Line of line cause)) stops =
       inl (stops.0, record { bytes = bytes; has = has; first = stops.1 })
   numbering_ends format (InputRefused UnknownName) stops = absurd stops
+  numbering_ends format (InputRefused (NoRefutation k)) stops = absurd stops
   numbering_ends format (InputRefused (Query fault)) stops = absurd stops
   numbering_ends format WantOfMemory stops = inr refl
   numbering_ends format Done stops = absurd stops
