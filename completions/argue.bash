@@ -11,19 +11,21 @@ _argue() {
         names) options="-p -k -a -f -b -c" ;;
         af) options="-k -f" ;;
         lrat) options="-d -l" ;;
+        export) options="-p -a -f -r -c -i -o" ;;
         *) options="-p -a -f -b -c" ;;
     esac
     case $before in
         -p) COMPREPLY=($(compgen -W "$tasks" -- "$word")) ;;
         -k) COMPREPLY=($(compgen -W "apx tgf" -- "$word")) ;;
-        -f | -r | -s | -c | -d | -l)
+        -f | -r | -s | -c | -d | -l | -o)
             local IFS=$'\n'
             compopt -o filenames 2>/dev/null
             COMPREPLY=($(compgen -f -- "$word"))
             ;;
-        -a | -b | -n | -x) ;;
+        -a | -b | -n | -x | -i) ;;
         *)
-            [ "$COMP_CWORD" -ne 1 ] || options="$options check live bench names af lrat --problems --help --version"
+            [ "$COMP_CWORD" -ne 1 ] ||
+                options="$options check live bench names af lrat export --problems --help --version"
             COMPREPLY=($(compgen -W "$options" -- "$word"))
             ;;
     esac

@@ -296,6 +296,15 @@ is "another file" "$status $out $err" "0 w 1 3 "
 run ./argue check -p SE-PR -f f.af -r answer.txt -c f.af
 is "check reads it, and writes nothing" "$status $out" "2 error: certificate line 1 NoHeader"
 
+# Texts of a refutation that would.
+./argue -p EE-PR -f f.af -c e.cnf >answer.lrat && cp f.af f.cnf && cp e.cnf kept.k && cp answer.lrat kept.a
+for it in "-f f.cnf -o f" "-f f.af -o e" "-f f.af -o ./answer"; do
+    # shellcheck disable=SC2086
+    run ./argue export -p EE-PR -r answer.lrat -c e.cnf -i 1 $it
+    is "export $it" "$status $out" "1 error: usage"
+done
+is "its files are as they were" "$(cmp f.cnf f.af && cmp e.cnf kept.k && cmp answer.lrat kept.a && echo same)" same
+
 # Words: the script tells a fault exactly where the program refuses them.
 told=0
 while read -r line; do
@@ -383,6 +392,15 @@ bench -n 100001 -x 7
 bench -n 010 -x 07
 bench -n 10 -x 4294967296
 bench -n 10
+export -p SE-PR -f examples/rivals.af -r answer.txt -c k -i 1 -o pair
+export -p SE-PR -f examples/rivals.af -r answer.txt -c k -i 0 -o pair
+export -p SE-PR -f examples/rivals.af -r answer.txt -c k -i x -o pair
+export -p SE-PR -f examples/rivals.af -r answer.txt -c k -i 4294967296 -o pair
+export -p SE-PR -f examples/rivals.af -r answer.txt -c k -i 1
+export -p SE-PR -f examples/rivals.af -r answer.txt -c k -o pair
+export -p SE-PR -f examples/rivals.af -r answer.txt -i 1 -o pair
+export -p SE-PR -a 1 -f examples/rivals.af -r answer.txt -c k -i 1 -o pair
+check -p SE-PR -f examples/rivals.af -r answer.txt -c k -i 1
 Check -p SE-PR
 check live
 END
@@ -436,6 +454,9 @@ is "completion of options" "$complete" "-p -a -f -r -c"
 complete=$(. "$room/root/opt/a/share/bash-completion/completions/argue" &&
     COMP_WORDS=(argue lrat -) COMP_CWORD=2 && _argue && echo "${COMPREPLY[*]}")
 is "completion of the options of lrat" "$complete" "-d -l"
+complete=$(. "$room/root/opt/a/share/bash-completion/completions/argue" &&
+    COMP_WORDS=(argue export -) COMP_CWORD=2 && _argue && echo "${COMPREPLY[*]}")
+is "completion of the options of export" "$complete" "-p -a -f -r -c -i -o"
 run make -s uninstall DESTDIR="$room/root" PREFIX=/opt/a
 is "make uninstall" "$(find "$room/root" -type f)" ""
 

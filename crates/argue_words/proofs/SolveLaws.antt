@@ -265,6 +265,15 @@ live_built (Ok c) first second a b is then f g last =
     last ∙ ap (λ r. with_rule second r) g ∙ ap (λ app. with_rule app (option_of (codes "certificate") 99 false))
     (then ∙ ap (λ r. with_rule first r) f ∙ ap (λ app. with_rule app (option_of (codes "budget") 98 false)) is)
 
+pub export_built : {E : Type 0} (r : Result Command E) (first second : App) (a b : Rule) → first ≡ check_app
+    → second ≡ with_rule first a → a ≡ value_option (codes "refutation") 105 → b ≡ value_option (codes "output") 111
+    → IfOk r (λ c. app_of c ≡ with_rule second b) → IfOk r (λ c. app_of c ≡ export_app)
+unfolding export_app
+export_built (Err e) first second a b is then f g last = tt
+export_built (Ok c) first second a b is then f g last =
+    last ∙ ap (λ r. with_rule second r) g ∙ ap (λ app. with_rule app (value_option (codes "output") 111))
+    (then ∙ ap (λ r. with_rule first r) f ∙ ap (λ app. with_rule app (value_option (codes "refutation") 105)) is)
+
 -- ---- words
 
 pub some_texts : {X : Type 0} (text : X → Text) (words : List X) → false ≡ (length words == 0)

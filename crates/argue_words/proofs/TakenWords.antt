@@ -177,6 +177,7 @@ no_script = record {
   no_names = λ texts query. no_name_in _ query.rest command.Names (λ e. cc) query.words_are;
   no_af = λ texts query. no_name_in _ query.rest command.Af (λ e. cc) query.words_are;
   no_lrat = λ texts query. no_name_in _ query.rest command.Lrat (λ e. cc) query.words_are;
+  no_export = λ texts query. no_name_in _ query.rest command.Export (λ e. cc) query.words_are;
   others = λ none. cc;
 }
 

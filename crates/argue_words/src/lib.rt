@@ -1,5 +1,5 @@
-//! The words after the program's name: none, `--problems`, the name of a command (`check`, `live`, `bench`, `names`, `af`,
-//! `lrat` or `export`) and its options, or the options of a query, in any order, as clap takes them.
+//! The words after the program's name: none, `--problems`, the name of a command (`check`, `live`, `bench`, `names`,
+//! `af`, `lrat` or `export`) and its options, or the options of a query, in any order, as clap takes them.
 #![tactic(auto)]
 
 mod options;

@@ -131,15 +131,12 @@ pub(crate) fn lrat_command<'a>(alloc: Global) -> Result<Command<'a>, AllocError>
     with_arg(command, value_arg(alloc, "lrat", 'l', true))
 }
 
-/// The command of the options of a check and of `-i REFUTATION` and `-o OUTPUT`, whose words begin after the name of the
-/// command.
-#[tactic(auto, unfolding(crate::specs::Words::export_app))]
+/// The command of the options of a check and of `-i REFUTATION` and `-o OUTPUT`, whose words begin after the name of
+/// the command.
 pub(crate) fn export_command<'a>(alloc: Global) -> Result<Command<'a>, AllocError>
     ensures { IfOk result (λ c. app_of c ≡ export_app) }
 {
-    let command = with_arg(
-        check_command(alloc)?,
-        value_arg(alloc, "refutation", 'i', true),
-    )?;
+    let command = check_command(alloc)?;
+    let command = with_arg(command, value_arg(alloc, "refutation", 'i', true))?;
     with_arg(command, value_arg(alloc, "output", 'o', true))
 }

@@ -133,8 +133,8 @@ pub struct LratWords<'a> {
 }
 
 /// The words for the texts of a refutation of a certificate: those of a check of the certificate, which refutation is
-/// meant, and the name that the files of its texts have before their endings. Whether the refutation's words are a number,
-/// and whether the certificate has that refutation, is for the caller to see.
+/// meant, and the name that the files of its texts have before their endings. Whether the refutation's words are a
+/// number, and whether the certificate has that refutation, is for the caller to see.
 #[derive(Clone, Copy, PartialEq, Eq)]
 pub struct ExportWords<'a> {
     pub check: CheckWords<'a>,

@@ -1,4 +1,4 @@
-use Rattle.std.proofs.Common.{◌≡◌, ◌∷◌, ◌∙◌, ap, map, rules, sym, Some}
+use Rattle.std.proofs.Common.{◌≡◌, ◌∙◌, ap, map, rules, sym, Some}
 use Rattle.std.specs.String.{string_bytes}
 use Rattle.argue_words.specs.declared.words.CommandName.TheVariants as command
 use Rattle.argue_words.specs.Words.{named}
@@ -52,4 +52,5 @@ returns-in-Some-Export-clause-unknown c =
     let is : c.in-Some-Export.field-0 ≡ command.Export = search rules in
     named_unknown (map string_bytes c.args.words.now) (map string_bytes c.in-Some.rest.now)
     (string_bytes c.in-Some.first.now) command.Export c.read_export.result (search rules)
-    (ap named (sym c.as_str.ensures.value) ∙ sym c.named.ensures ∙ c.in-Some-Export.is ∙ ap Some is) c.read_export.ensures.request
+    (ap named (sym c.as_str.ensures.value) ∙ sym c.named.ensures ∙ c.in-Some-Export.is ∙ ap Some is)
+    c.read_export.ensures.request
