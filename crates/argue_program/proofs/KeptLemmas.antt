@@ -4,16 +4,21 @@ use Rattle.argue_outside.specs.Outside.{FaultCounted, KnownFile}
 use Rattle.argue_outside.specs.declared.Role.{Role}
 use Rattle.argue_words.specs.Words.{AfTexts, BenchTexts, CheckTexts, IsBenchQuery, IsLiveQuery, IsNamesQuery, IsSolveQuery}
 use Rattle.argue_words.specs.Words.{LiveTexts, NamesTexts, Request, SolveTexts, version, problems, solving, checking}
-use Rattle.argue_words.specs.Words.{living, benching, by_name, numbering, verifying, unknown, requested}
+use Rattle.argue_words.specs.Words.{ExportTexts, living, benching, by_name, numbering, verifying, exporting, unknown}
+use Rattle.argue_words.specs.Words.{requested}
+use Rattle.argue_words.proofs.RequestLaws.{export_requested_by}
 use Rattle.argue_words.proofs.RequestLaws.{input_requested, names_requested_by, query_requested, script_requested}
 use Rattle.apx_tgf.specs.declared.format.NameFormat.{NameFormat}
+use Rattle.lrat_commands.specs.Exporting.{cnf_name, exported_files, exporting_by, lrat_name}
+use Rattle.lrat_commands.specs.declared.exporting.Exporting.{Exporting}
 use Rattle.named_commands.specs.Namings.{AnswersNamedFile, format_named, naming_by, solving_of}
 use Rattle.named_commands.specs.declared.naming.Naming.{Naming}
 use Rattle.argue_commands.specs.Inputs.{Reading}
 use Rattle.argue_commands.specs.Replacing.{FileText, certificate_files, file_text, RefusesFile}
 use Rattle.argue_commands.proofs.ReplacingLemmas.{HaveOtherNames}
 use Rattle.argue_program.specs.Rows.{EndsCommand, IsEndingFor, IsEndingOf, af_row, bench_row, check_row, certificates_files}
-use Rattle.argue_program.specs.Rows.{files_beside, live_row, names_row, nothing_kept, reply_files, row_of, script_files}
+use Rattle.argue_program.specs.Rows.{AreFiles, export_row}
+use Rattle.argue_program.specs.Rows.{live_row, names_row, nothing_kept, reply_files, row_of, script_files}
 use Rattle.argue_program.specs.Rows.{script_kept, session_files, solve_row}
 use Rattle.iccma_tasks.specs.Tasks.{Asked}
 use Rattle.argue_program.specs.LargeInputs.{large_by}
@@ -40,17 +45,18 @@ use Rattle.argue_commands.specs.declared.ended.KeptSession.{KeptSession}
 use Rattle.argue_commands.specs.declared.ended.Status.{Status}
 use Rattle.argue_commands.specs.declared.ended.Status.TheVariants.{Done, Usage, InputRefused, ReadFault, WriteFault, WantOfMemory, Unknown, Limit, Rejected}
 use Rattle.argue_program.specs.declared.ended.Transcript.{Transcript}
-use Rattle.argue_commands.specs.Texts.{common_text}
+use Rattle.argue_commands.specs.Texts.{common_text, text_bytes}
 
 -- ---- files of other names
 
 pub some_is : {X : Type 0} {x y : X} → Some x ≡ Some y → x ≡ y
 some_is e = cc
 
-beside_other : (name : List ℕ) (text : Option (List ℕ)) (files : List FileText) → HaveOtherNames name files
-    → HaveOtherNames name (files_beside text files)
-beside_other name None files other = other
-beside_other name (Some text) files other = tt
+beside_other : (name : List ℕ) (said : Option (List ℕ)) (Writes : List FileText → Type 0) (files : List FileText)
+    → ((list : List FileText) → Writes list → HaveOtherNames name list) → AreFiles said Writes files
+    → HaveOtherNames name files
+beside_other name None Writes files other are = other files are
+beside_other name (Some text) Writes files other are = subst (HaveOtherNames name) (sym are) tt
 
 certificate_other : (name : List ℕ) (named : Option (List ℕ)) (certificate : Certificate) → (named ≡ Some name → ⊥)
     → HaveOtherNames name (certificate_files named certificate)
@@ -67,16 +73,24 @@ session_other : (name : List ℕ) (named : Option (List ℕ)) (session : Option 
 session_other name named None other = tt
 session_other name named (Some session) other = reply_other name named session.reply other
 
+-- files that are those have other names where those have
+of_those : (name : List ℕ) (those files : List FileText) → files ≡ those → HaveOtherNames name those
+    → HaveOtherNames name files
+of_those name those files is other = subst (HaveOtherNames name) (sym is) other
+
 solve_other : (holds : List ℕ → KnownFile) (query : Option Solving) (texts : SolveTexts) (kept : Transcript)
-    (end : Status) (name : List ℕ) → (texts.certificate ≡ Some name → ⊥)
-    → HaveOtherNames name ((solve_row holds query texts).files kept end)
-solve_other holds None texts kept end name other = tt
-solve_other holds (Some query) texts kept end name other = session_other name texts.certificate kept.session other
+    (end : Status) (text : List ℕ) (files : List FileText) (name : List ℕ) → (texts.certificate ≡ Some name → ⊥)
+    → (solve_row holds query texts).Writes kept end text files → HaveOtherNames name files
+solve_other holds None texts kept end text files name other are = of_those name [] files are tt
+solve_other holds (Some query) texts kept end text files name other are =
+    of_those name (session_files texts.certificate kept.session) files are
+    (session_other name texts.certificate kept.session other)
 
 check_other : (holds : List ℕ → KnownFile) (asked : Option Asked) (texts : CheckTexts) (kept : Transcript)
-    (end : Status) (name : List ℕ) → HaveOtherNames name ((check_row holds asked texts).files kept end)
-check_other holds None texts kept end name = tt
-check_other holds (Some asked) texts kept end name = tt
+    (end : Status) (text : List ℕ) (files : List FileText) (name : List ℕ)
+    → (check_row holds asked texts).Writes kept end text files → HaveOtherNames name files
+check_other holds None texts kept end text files name are = of_those name [] files are tt
+check_other holds (Some asked) texts kept end text files name are = of_those name [] files are tt
 
 certificates_other : (name : List ℕ) (named : Option (List ℕ)) (transcript : ScriptTranscript)
     → (named ≡ Some name → ⊥) → HaveOtherNames name (certificates_files named transcript)
@@ -89,58 +103,78 @@ script_other name named None other = tt
 script_other name named (Some transcript) other = certificates_other name named transcript other
 
 live_other : (holds : List ℕ → KnownFile) (budget : Option ℕ) (texts : LiveTexts) (kept : Transcript) (end : Status)
-    (name : List ℕ) → (texts.certificate ≡ Some name → ⊥)
-    → HaveOtherNames name ((live_row holds budget texts).files kept end)
-live_other holds None texts kept end name other = tt
-live_other holds (Some budget) texts kept end name other = script_other name texts.certificate kept.script other
+    (text : List ℕ) (files : List FileText) (name : List ℕ) → (texts.certificate ≡ Some name → ⊥)
+    → (live_row holds budget texts).Writes kept end text files → HaveOtherNames name files
+live_other holds None texts kept end text files name other are = of_those name [] files are tt
+live_other holds (Some budget) texts kept end text files name other are =
+    of_those name (script_files texts.certificate kept.script) files are
+    (script_other name texts.certificate kept.script other)
 
-bench_other : (large : Option LargeInput) (kept : Transcript) (end : Status) (name : List ℕ)
-    → HaveOtherNames name ((bench_row large).files kept end)
-bench_other None kept end name = tt
-bench_other (Some large) kept end name = tt
+bench_other : (large : Option LargeInput) (kept : Transcript) (end : Status) (text : List ℕ) (files : List FileText)
+    (name : List ℕ) → (bench_row large).Writes kept end text files → HaveOtherNames name files
+bench_other None kept end text files name are = of_those name [] files are tt
+bench_other (Some large) kept end text files name are = of_those name [] files are tt
 
 names_other : (holds : List ℕ → KnownFile) (by : Option Naming) (texts : NamesTexts) (kept : Transcript) (end : Status)
-    (name : List ℕ) → (texts.certificate ≡ Some name → ⊥)
-    → HaveOtherNames name ((names_row holds by texts).files kept end)
-names_other holds None texts kept end name other = tt
-names_other holds (Some naming) texts kept end name other = session_other name texts.certificate kept.session other
+    (text : List ℕ) (files : List FileText) (name : List ℕ) → (texts.certificate ≡ Some name → ⊥)
+    → (names_row holds by texts).Writes kept end text files → HaveOtherNames name files
+names_other holds None texts kept end text files name other are = of_those name [] files are tt
+names_other holds (Some naming) texts kept end text files name other are =
+    of_those name (session_files texts.certificate kept.session) files are
+    (session_other name texts.certificate kept.session other)
 
 af_other : (holds : List ℕ → KnownFile) (by : Option NameFormat) (texts : AfTexts) (kept : Transcript) (end : Status)
-    (name : List ℕ) → HaveOtherNames name ((af_row holds by texts).files kept end)
-af_other holds None texts kept end name = tt
-af_other holds (Some format) texts kept end name = tt
+    (text : List ℕ) (files : List FileText) (name : List ℕ) → (af_row holds by texts).Writes kept end text files
+    → HaveOtherNames name files
+af_other holds None texts kept end text files name are = of_those name [] files are tt
+af_other holds (Some format) texts kept end text files name are = of_those name [] files are tt
 
--- a row writes no file but that for certificates
+export_other : (holds : List ℕ → KnownFile) (by : Option Exporting) (texts : ExportTexts) (kept : Transcript)
+    (end : Status) (text : List ℕ) (files : List FileText) (name : List ℕ)
+    → ((name ≡ cnf_name texts.output) ⊎ (name ≡ lrat_name texts.output) → ⊥)
+    → (export_row holds by texts).Writes kept end text files → HaveOtherNames name files
+export_other holds None texts kept end text files name other are = of_those name [] files are tt
+export_other holds (Some wanted) texts kept end text files name other writes =
+    of_those name (exported_files texts.output writes.exported) files writes.files_are
+    (λ e. other (inl e), (λ e. other (inr e), tt))
+
+-- a row writes no file but those that the words name
 row_other : (holds : List ℕ → KnownFile) (words : List (List ℕ)) (request : Request) (kept : Transcript) (end : Status)
-    (name : List ℕ) → requested words ≡ request → ¬ NamesCertificate words name
-    → HaveOtherNames name ((row_of holds request).files kept end)
-row_other holds words version kept end name is other = tt
-row_other holds words problems kept end name is other = tt
-row_other holds words (solving texts) kept end name is other =
-    solve_other holds (solving_by texts) texts kept end name
-    (λ e. other (inl (record { texts = texts; asks = query_requested words texts is; named = e })))
-row_other holds words (checking texts) kept end name is other =
-    check_other holds (asked_by texts.task texts.number) texts kept end name
-row_other holds words (living texts) kept end name is other =
-    live_other holds (budget_of texts.budget) texts kept end name
-    (λ e. other (inr (inl (record { texts = texts; asks = script_requested words texts is; named = e }))))
-row_other holds words (benching texts) kept end name is other = bench_other (large_by texts) kept end name
-row_other holds words (by_name texts) kept end name is other =
-    names_other holds (naming_by texts) texts kept end name
-    (λ e. other (inr (inr (record { texts = texts; asks = names_requested_by words texts is; named = e }))))
-row_other holds words (numbering texts) kept end name is other = af_other holds (format_named texts.kind) texts kept end name
-row_other holds words (verifying texts) kept end name is other = tt
-row_other holds words unknown kept end name is other = tt
+    (text : List ℕ) (files : List FileText) (name : List ℕ) → requested words ≡ request → ¬ NamesCertificate words name
+    → (row_of holds request).Writes kept end text files → HaveOtherNames name files
+row_other holds words version kept end text files name is other are = of_those name [] files are tt
+row_other holds words problems kept end text files name is other are = of_those name [] files are tt
+row_other holds words (solving texts) kept end text files name is other are =
+    solve_other holds (solving_by texts) texts kept end text files name
+    (λ e. other (inl (record { texts = texts; asks = query_requested words texts is; named = e }))) are
+row_other holds words (checking texts) kept end text files name is other are =
+    check_other holds (asked_by texts.task texts.number) texts kept end text files name are
+row_other holds words (living texts) kept end text files name is other are =
+    live_other holds (budget_of texts.budget) texts kept end text files name
+    (λ e. other (inr (inl (record { texts = texts; asks = script_requested words texts is; named = e })))) are
+row_other holds words (benching texts) kept end text files name is other are =
+    bench_other (large_by texts) kept end text files name are
+row_other holds words (by_name texts) kept end text files name is other are =
+    names_other holds (naming_by texts) texts kept end text files name
+    (λ e. other (inr (inr (inl (record { texts = texts; asks = names_requested_by words texts is; named = e }))))) are
+row_other holds words (numbering texts) kept end text files name is other are =
+    af_other holds (format_named texts.kind) texts kept end text files name are
+row_other holds words (verifying texts) kept end text files name is other are = of_those name [] files are tt
+row_other holds words (exporting texts) kept end text files name is other are =
+    export_other holds (exporting_by texts) texts kept end text files name
+    (λ e. other (inr (inr (inr (record { texts = texts; asks = export_requested_by words texts is; named = e }))))) are
+row_other holds words unknown kept end text files name is other are = of_those name [] files are tt
 
 -- the files of an ending have other names than one that names no certificate
 pub ending_other : (found : Reading) (words : List (List ℕ)) (ending : Ending) (name : List ℕ)
     → IsEndingOf found (row_of found.holds (requested words)) ending → ¬ NamesCertificate words name
     → HaveOtherNames name (map file_text ending.files)
 ending_other found words ending name decided other =
-    subst (HaveOtherNames name) (sym decided.files)
-    (beside_other name (common_text ending.status)
-    ((row_of found.holds (requested words)).files ending.kept ending.status)
-    (row_other found.holds words (requested words) ending.kept ending.status name refl other))
+    beside_other name (common_text ending.status)
+    ((row_of found.holds (requested words)).Writes ending.kept ending.status (text_bytes ending.text))
+    (map file_text ending.files)
+    (λ list are. row_other found.holds words (requested words) ending.kept ending.status (text_bytes ending.text) list name
+    refl other are) decided.files
 
 -- where each name of a kind is accepted, and files have other names than those that aren't of it, none is refused
 none_refused : (accepts Named : List ℕ → Type 0) (files : List FileText) → ((name : List ℕ) → Named name → accepts name)
@@ -290,6 +324,12 @@ names_session found words texts (Some naming) kept end session asks naming_is (i
     subst (AsksSession words found.holds) e
     (asks_name words found.holds texts naming named.session named.text asks naming_is named.answers)
 
+-- an export keeps nothing
+export_keeps : (holds : List ℕ → KnownFile) (by : Option Exporting) (texts : ExportTexts) (kept : Transcript)
+    (end : Status) → (export_row holds by texts).Ends kept end → kept ≡ nothing_kept
+export_keeps holds None texts kept end unasked = unasked.0
+export_keeps holds (Some wanted) texts kept end exports = exports.0
+
 -- a text with numbers keeps nothing
 af_keeps : (holds : List ℕ → KnownFile) (by : Option NameFormat) (texts : AfTexts) (kept : Transcript) (end : Status)
     → (af_row holds by texts).Ends kept end → kept ≡ nothing_kept
@@ -316,6 +356,8 @@ kept_at found words (by_name texts) kept end session asked (inr ends) is =
 kept_at found words (numbering texts) kept end session asked (inr ends) is =
     none_kept found words kept session (af_keeps found.holds (format_named texts.kind) texts kept end ends) is
 kept_at found words (verifying texts) kept end session asked (inr ends) is = none_kept found words kept session ends.0 is
+kept_at found words (exporting texts) kept end session asked (inr ends) is =
+    none_kept found words kept session (export_keeps found.holds (exporting_by texts) texts kept end ends) is
 kept_at found words (solving texts) kept end session asked (inr ends) is =
     kept_by found words texts (solving_by texts) kept end session (query_requested words texts asked) refl ends is
 
@@ -399,5 +441,7 @@ script_at found words (numbering texts) kept end transcript asked (inr ends) is 
     (af_keeps found.holds (format_named texts.kind) texts kept end ends) is)
 script_at found words (verifying texts) kept end transcript asked (inr ends) is =
     absurd (nothing_no_script kept transcript ends.0 is)
+script_at found words (exporting texts) kept end transcript asked (inr ends) is =
+    absurd (nothing_no_script kept transcript (export_keeps found.holds (exporting_by texts) texts kept end ends) is)
 script_at found words unknown kept end transcript asked (inr unasked) is =
     absurd (nothing_no_script kept transcript unasked.0 is)

@@ -9,6 +9,7 @@ use Rattle.argue_program.specs.Rows.{EndsSummed, IsEndingOf, bench_row, files_be
 use Rattle.argue_commands.specs.Texts.{common_text, text_bytes}
 use Rattle.argue_program.specs.declared.ending.Ending.{Ending}
 use Rattle.argue_program.specs.declared.large.LargeInput.{LargeInput}
+use Rattle.argue_program.proofs.FilesLemmas.{beside_are}
 use Rattle.argue_program.proofs.RowsLemmas.{CountsReads-none, text_done}
 
 -- one whose sessions have run ends as its row says
@@ -21,6 +22,7 @@ large_summed found by large run ending quiet is runs told ends =
       cause = inr (record { run = run; keeps = ends.keeps; is = runs; ends = ends.status });
       text = text_done ending.status (λ t. t ≡ summary large.arguments large.seed) (text_bytes ending.text) ends.status
           (ends.text ∙ told);
-      files = ap (map file_text) ends.files ∙ sym (ap (λ e. files_beside (common_text e) []) ends.status);
+      files = beside_are (common_text ending.status) [] (map file_text ending.files)
+          (ap (map file_text) ends.files ∙ sym (ap (λ e. files_beside (common_text e) []) ends.status));
       counts = CountsReads-none found (bench_row (Some large)) ending.status quiet;
     })

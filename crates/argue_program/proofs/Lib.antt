@@ -1,4 +1,6 @@
 mod EndsLemmas
+mod ExportLemmas
+mod FilesLemmas
 mod LargeLemmas
 mod LratLemmas
 mod NamesLemmas

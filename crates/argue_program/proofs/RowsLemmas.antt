@@ -1,13 +1,14 @@
 -- Endings that a row of the table has.
-use Rattle.std.proofs.Common.{◌≡◌, ◌≢◌, ◌∙◌, ◌⊎◌, ℕ, List, [], ◌∷◌, refl, sym, ap, subst, inl, inr, arith, false, Option, None, Some, Result, Ok, Err, codes}
+use Rattle.std.proofs.Common.{◌≡◌, ◌≢◌, ◌∙◌, ◌⊎◌, ℕ, List, [], ◌∷◌, refl, sym, ap, subst, inl, inr, arith, false, Option, None, Some, Result, Ok, Err, codes, map}
 use Rattle.std.specs.Prelude.{Contains, IfOk, IsTrue}
 use Rattle.std.specs.Option.{unwrap_or}
 use Rattle.lists.specs.declared.memory.Memory.{Memory}
 use Rattle.argue_outside.specs.Outside.{KnownFile, OtherCountsKept}
 use Rattle.argue_outside.specs.declared.Role.{Role}
 use Rattle.argue_outside.specs.declared.Role.TheVariants as role
+use Rattle.argue_words.specs.Words.{ExportTexts}
 use Rattle.argue_words.specs.Words.{AfTexts, CheckTexts, LiveTexts, NamesTexts, Request, SolveTexts, version, problems}
-use Rattle.argue_words.specs.Words.{solving, checking, living, benching, by_name, numbering, verifying, unknown}
+use Rattle.argue_words.specs.Words.{solving, checking, living, benching, by_name, numbering, verifying, exporting, unknown}
 use Rattle.argue_words.specs.Words.{bench_texts}
 use Rattle.argue_words.specs.Words.{command_named, live_texts, request_of, requested}
 use Rattle.argue_words.proofs.RequestLaws.{input_requested, none_requested, script_requested}
@@ -20,9 +21,12 @@ use Rattle.argue_words.specs.declared.words.LiveWords.{LiveWords}
 use Rattle.argue_commands.specs.Inputs.{EndsReading, Input, Reading, StopsAtFirst, input, named_input}
 use Rattle.argue_commands.proofs.InputLemmas.{follow_none, one_in, no_read_fault}
 use Rattle.argue_program.specs.Rows.{CountsReads, EndsCommand, EndsSession, IsEndingOf, IsTextOf, Row, af_row, bench_row}
+use Rattle.argue_program.specs.Rows.{export_row}
 use Rattle.argue_program.specs.Rows.{check_row, files_beside, live_row, names_row, nothing_kept, row_of, session_files}
 use Rattle.argue_program.specs.Rows.{reply_text, session_text, solve_row, unknown_row}
 use Rattle.apx_tgf.specs.declared.format.NameFormat.{NameFormat}
+use Rattle.lrat_commands.specs.Exporting.{exporting_by}
+use Rattle.lrat_commands.specs.declared.exporting.Exporting.{Exporting}
 use Rattle.named_commands.specs.Namings.{AnswersNamedFile, EndsNaming, format_named, naming_by}
 use Rattle.named_commands.specs.Numberings.{IsNumberedOf}
 use Rattle.named_commands.specs.declared.naming.Naming.{Naming}
@@ -39,11 +43,13 @@ use Rattle.argue_commands.specs.declared.ended.Refusal.TheVariants.{Query, Unkno
 use Rattle.bench_runs.specs.oracle_core.specs.declared.reply.AnswerStop.{AnswerStop}
 use Rattle.bench_runs.specs.oracle_core.specs.declared.reply.AnswerStop.TheVariants as stop
 use Rattle.bench_runs.specs.oracle_core.specs.declared.reply.Answered.{Answered}
+use Rattle.argue_commands.specs.Replacing.{file_text}
 use Rattle.argue_commands.specs.Texts.{IsRefusal, common_text, text_bytes}
 use Rattle.argue_program.specs.declared.ending.Ending.{Ending}
 use Rattle.argue_commands.specs.declared.ended.Status.{Status}
 use Rattle.argue_commands.specs.declared.ended.Status.TheVariants.{Done, Usage, InputRefused, ReadFault, WriteFault, WantOfMemory, Unknown, Limit}
 use Rattle.argue_program.specs.declared.ended.Transcript.{Transcript}
+use Rattle.argue_program.proofs.FilesLemmas.{beside_are, none_beside}
 
 -- ---- the text of an ending
 
@@ -90,7 +96,8 @@ module _ (found : Reading) (row : Row) (ending : Ending) (end : Status) where
         let P : Transcript → Type 0 = λ k. EndsCommand found row k ending.status in
         subst P (sym kept) (stopped_cause cause takes is);
     text = text_said (common_text ending.status) (row.Says ending.kept ending.status) (text_bytes ending.text) text;
-    files = rw none (rw (sym text) refl);
+    files = none_beside (common_text ending.status) (row.Writes ending.kept ending.status (text_bytes ending.text))
+        (map file_text ending.files) (text_bytes ending.text) text (ap (map file_text) none);
     counts = record { quiet = stopped_quiet counts.quiet is; others = counts.others };
   }
 
@@ -125,6 +132,11 @@ af_takes : (holds : List ℕ → KnownFile) (by : Option NameFormat) (texts : Af
 af_takes holds None texts = refl
 af_takes holds (Some format) texts = refl
 
+export_takes : (holds : List ℕ → KnownFile) (by : Option Exporting) (texts : ExportTexts)
+    → IsTrue (export_row holds by texts).takes_memory
+export_takes holds None texts = refl
+export_takes holds (Some wanted) texts = refl
+
 takes_unless : (holds : List ℕ → KnownFile) (words : List (List ℕ)) (request : Request) → requested words ≡ request
     → words ≢ []
     → IsTrue (row_of holds request).takes_memory
@@ -137,6 +149,7 @@ takes_unless holds words (benching texts) is some = bench_takes (large_by texts)
 takes_unless holds words (by_name texts) is some = names_takes holds (naming_by texts) texts
 takes_unless holds words (numbering texts) is some = af_takes holds (format_named texts.kind) texts
 takes_unless holds words (verifying texts) is some = refl
+takes_unless holds words (exporting texts) is some = export_takes holds (exporting_by texts) texts
 takes_unless holds words unknown is some = refl
 
 -- where there are words, the command that they ask for takes memory
@@ -279,8 +292,10 @@ module _ (found : Reading) (by : Option Solving) (query : Solving) (texts : Solv
         cause = inr (record { session = session; keeps = ends.keeps; on = on; ends = ends.status });
         text = text_told (common_text ending.status) (λ t. t ≡ session_text ending.kept.session)
             (text_bytes ending.text) (reply_text session.reply) ends.text (sym (ap session_text keeps));
-        files = ends.files ∙ ap (λ s. files_beside (common_text ending.status) (session_files texts.certificate s))
-            (sym keeps);
+        files = beside_are (common_text ending.status) (session_files texts.certificate ending.kept.session)
+            (map file_text ending.files)
+            (ends.files ∙ ap (λ s. files_beside (common_text ending.status) (session_files texts.certificate s))
+            (sym keeps));
         counts = CountsReads-none found (solve_row found.holds (Some query) texts) ending.status quiet;
       })
 
@@ -371,8 +386,10 @@ module _ (found : Reading) (by : Option Naming) (texts : NamesTexts) (ending : E
         }));
         text = text_told (common_text ending.status) (row.Says ending.kept ending.status) (text_bytes ending.text) said
             ends.text (record { session = session; keeps = keeps; answers = answers });
-        files = ends.files ∙ ap (λ s. files_beside (common_text ending.status) (session_files texts.certificate s))
-            (sym keeps);
+        files = beside_are (common_text ending.status) (session_files texts.certificate ending.kept.session)
+            (map file_text ending.files)
+            (ends.files ∙ ap (λ s. files_beside (common_text ending.status) (session_files texts.certificate s))
+            (sym keeps));
         counts = CountsReads-none found row ending.status quiet;
       })
 
@@ -471,6 +488,11 @@ no_af_fault : (holds : List ℕ → KnownFile) (by : Option NameFormat) (texts :
 no_af_fault holds None texts kept unasked = let e : WriteFault ≡ Usage = unasked.1 in cc
 no_af_fault holds (Some format) texts kept numbered = let e : WriteFault ≡ Done = numbered.ends in cc
 
+no_export_fault : (holds : List ℕ → KnownFile) (by : Option Exporting) (texts : ExportTexts) (kept : Transcript)
+    → ¬ (export_row holds by texts).Ends kept WriteFault
+no_export_fault holds None texts kept unasked = let e : WriteFault ≡ Usage = unasked.1 in cc
+no_export_fault holds (Some wanted) texts kept exports = exports.1.ends
+
 no_row_fault : (found : Reading) (holds : List ℕ → KnownFile) (request : Request) (kept : Transcript)
     → ¬ EndsCommand found (row_of holds request) kept WriteFault
 no_row_fault found holds request kept (inl (nothing, inl stops)) =
@@ -487,6 +509,7 @@ no_row_fault found holds (benching texts) kept (inr ends) = no_bench_fault (larg
 no_row_fault found holds (by_name texts) kept (inr ends) = no_names_fault holds (naming_by texts) texts kept ends
 no_row_fault found holds (numbering texts) kept (inr ends) = no_af_fault holds (format_named texts.kind) texts kept ends
 no_row_fault found holds (verifying texts) kept (inr ends) = ends.1.ends
+no_row_fault found holds (exporting texts) kept (inr ends) = no_export_fault holds (exporting_by texts) texts kept ends
 no_row_fault found holds unknown kept (inr unasked) = let e : WriteFault ≡ Usage = unasked.1 in cc
 
 -- what is decided is no write fault

@@ -6,10 +6,11 @@ use Rattle.argue_outside.specs.Outside.{FaultCounted}
 use Rattle.argue_outside.specs.declared.Role.{Role}
 use Rattle.argue_outside.specs.declared.Role.TheVariants.{Framework, Script as OfScript, Cnf as OfCnf}
 use Rattle.argue_words.specs.Words.{AfTexts, AreWords, BenchTexts, CheckTexts, IsAfQuery, IsBenchQuery, IsCheckQuery}
+use Rattle.argue_words.specs.Words.{ExportTexts, IsExportQuery}
 use Rattle.argue_words.specs.Words.{IsLiveQuery, IsLratQuery, IsNamesQuery, IsSolveQuery, LiveTexts, LratTexts}
 use Rattle.argue_words.specs.Words.{NamesTexts, Request, SolveTexts, version, problems, unknown, requested}
 use Rattle.argue_words.specs.Words.{words_are_problems}
-use Rattle.argue_words.proofs.RequestLaws.{requested_af, requested_input, requested_list, requested_lrat}
+use Rattle.argue_words.proofs.RequestLaws.{requested_af, requested_export, requested_input, requested_list, requested_lrat}
 use Rattle.argue_words.proofs.RequestLaws.{requested_names, requested_none, requested_query, requested_script}
 use Rattle.argue_words.proofs.RequestLaws.{requested_texts, requested_unknown}
 use Rattle.apx_tgf.specs.declared.format.NameFormat.{NameFormat}
@@ -18,13 +19,15 @@ use Rattle.named_commands.specs.Namings.{format_named, naming_by, solving_of}
 use Rattle.named_commands.specs.Numberings.{IsNumberedOf}
 use Rattle.named_commands.specs.declared.naming.Naming.{Naming}
 use Rattle.lrat_text.specs.CnfText.{Formula}
+use Rattle.lrat_commands.specs.Exporting.{exporting_by}
 use Rattle.lrat_commands.specs.Verifying.{IsUnsatisfiableOf}
+use Rattle.lrat_commands.specs.declared.exporting.Exporting.{Exporting}
 use Rattle.semantics.specs.Framework.{Af}
 use Rattle.semantics.specs.Frameworks.{af, Framework as AnyFramework}
 use Rattle.framework_text.specs.FrameworkText.{IsFaulty}
 use Rattle.argue_commands.specs.Replacing.{FileText, certificate_files, file_text, WritesFiles}
-use Rattle.argue_program.specs.Rows.{EndsCommand, EndsLarge, EndsLive, EndsNamed, EndsSolved, HasNoInput, IsTextOf}
-use Rattle.argue_program.specs.Rows.{Row, SaysNamed, WritesText, lrat_row, af_row, bench_row, check_row}
+use Rattle.argue_program.specs.Rows.{AreFiles, EndsCommand, EndsLarge, EndsLive, EndsNamed, EndsSolved, HasNoInput, IsTextOf}
+use Rattle.argue_program.specs.Rows.{Row, SaysNamed, WritesText, export_row, lrat_row, af_row, bench_row, check_row}
 use Rattle.argue_program.specs.Rows.{certificates_files, files_beside, live_row, names_row, reply_files, reply_text}
 use Rattle.argue_program.specs.Rows.{row_of, script_files, script_kept, script_text, session_files, session_text}
 use Rattle.argue_program.specs.Rows.{solve_row}
@@ -51,6 +54,7 @@ use Rattle.argue_program.specs.Runs.{AnswersRight, AsksSession, AsksTranscript, 
 use Rattle.argue_program.specs.Runs.{IsDoneOrMemory, IsFaultyScript, IsLiveEnd, IsRunOf, IsSolveEnd, LivesContents}
 use Rattle.argue_program.specs.Runs.{NamesCertificate, QueriesBytes, RefusesBytes, RefusesLength, RefusesWords}
 use Rattle.argue_program.specs.Runs.{ScriptsBytes, SolvesContents, SpendsBudget, WritesAnswer, CnfBytes, IsFaultyCnf}
+use Rattle.argue_program.specs.Runs.{ExportContents, IsExportEnd, WritesExported}
 use Rattle.argue_program.specs.Runs.{IsLratEnd, LratContents, WritesSummary, WritesTranscript, IsFaultyNamed}
 use Rattle.argue_program.specs.Runs.{IsNamesEnd, NamedBytes, NamesContents, NumbersContents, RefusesNamed}
 use Rattle.argue_program.specs.Runs.{WritesNamed, WritesNumbered}
@@ -68,52 +72,15 @@ use Rattle.argue_program.proofs.EndsLemmas.{ends_live, ends_large, ends_living, 
 use Rattle.argue_program.proofs.EndsLemmas.{large_done, problems_done, refuses_bytes, refuses_length}
 use Rattle.argue_program.proofs.EndsLemmas.{refuses_long_script, refuses_script, refuses_words, version_done}
 use Rattle.argue_commands.proofs.ReplacingLemmas.{HaveOtherNames, written_other, broken_other}
+use Rattle.argue_program.proofs.ExportLemmas.{ends_export, export_writes}
+use Rattle.argue_program.proofs.FilesLemmas.{are_beside, no_files, said_done, script_files_is, session_files_is}
+use Rattle.argue_program.proofs.FilesLemmas.{session_text_is}
 use Rattle.argue_program.proofs.KeptLemmas.{ending_other, kept_at, output_fault, script_at, some_is, write_fault_or}
 use Rattle.argue_program.proofs.LratLemmas.{done_unsatisfiable, ends_lrat, refuses_cnf, refuses_long_cnf}
 use Rattle.argue_program.proofs.NamesLemmas.{EndsAsking, EndsInFormat, af_is_done, asking_in, ends_asking, ends_names}
 use Rattle.argue_program.proofs.NamesLemmas.{ends_numbering, numbering_in, refuses_long_names, refuses_named}
 use Rattle.argue_commands.specs.declared.ended.Limit.TheVariants as limit
 use Rattle.argue_program.proofs.WhyLemmas.{SaysWhy, KeepsAsked, not_why, keeps_asked, spends_budget, fills_log}
-
--- ---- a query that is answered
-
--- the text of a run that is done is its row's
-said_done : (end : Status) (Says : List ℕ → Type 0) (text : List ℕ) → end ≡ Done → IsTextOf (common_text end) Says text
-    → Says text
-said_done end Says text done said =
-    let P : Status → Type 0 = λ e. IsTextOf (common_text e) Says text in subst P done said
-
-session_text_is : (kept : Option KeptSession) (session : KeptSession) (reply : Answered) → kept ≡ Some session
-    → session.reply ≡ Ok reply → session_text kept ≡ answer_text reply.answer
-session_text_is kept session reply keeps is = ap session_text keeps ∙ ap reply_text is
-
-session_files_is : (end : Status) (name : Option (List ℕ)) (kept : Option KeptSession) (session : KeptSession)
-    (reply : Answered) → end ≡ Done → kept ≡ Some session → session.reply ≡ Ok reply
-    → files_beside (common_text end) (session_files name kept) ≡ certificate_files name reply.certificate
-session_files_is end name kept session reply done keeps is =
-    ap (λ e. files_beside (common_text e) (session_files name kept)) done
-    ∙ ap (session_files name) keeps ∙ ap (reply_files name) is
-
--- ---- a script's run that is done
-
-script_files_is : (end : Status) (name : Option (List ℕ)) (kept : Transcript) (transcript : ScriptTranscript)
-    → end ≡ Done → kept ≡ script_kept transcript
-    → files_beside (common_text end) (script_files name kept.script) ≡ certificates_files name transcript
-script_files_is end name kept transcript done keeps =
-    ap (λ e. files_beside (common_text e) (script_files name kept.script)) done
-    ∙ ap (λ (k : Transcript). script_files name k.script) keeps
-
--- a status that is neither done nor a write fault has a text of its own, and so no files
-no_files : (files : List FileText) (end : Status) → end ≢ Done → files_beside (common_text end) files ≡ []
-no_files files Done other = absurd (other refl)
-no_files files Usage other = refl
-no_files files (InputRefused refusal) other = refl
-no_files files (ReadFault r) other = refl
-no_files files WriteFault other = refl
-no_files files WantOfMemory other = refl
-no_files files Unknown other = refl
-no_files files (Limit l) other = refl
-no_files files (Rejected rejection) other = refl
 
 module _ (words : List (List ℕ)) (seen : Seen) (ended : Ended) (run : IsRunOf words seen ended) where
   ends : ended.status ≢ WriteFault
@@ -236,9 +203,9 @@ module _ (words : List (List ℕ)) (seen : Seen) (ended : Ended) (run : IsRunOf 
       let both = run.whole whole in
       let P : List FileText → Type 0 = λ files. WritesFiles files seen.before.holds seen.after.holds in
       let none : map file_text run.ending.files ≡ [] =
-      run.decided.files
-      ∙ no_files ((row_of seen.files.holds (requested words)).files run.ending.kept run.ending.status) run.ending.status
-      (λ done. other (both.0 ∙ done)) in
+      no_files ((row_of seen.files.holds (requested words)).Writes run.ending.kept run.ending.status
+      (text_bytes run.ending.text)) (map file_text run.ending.files) run.ending.status
+      (λ done. other (both.0 ∙ done)) run.decided.files in
       subst P none both.1.files
 
   other_counts : (other : Role) → HasNoInput (row_of seen.files.holds (requested words)) other
@@ -291,8 +258,8 @@ module _ (words : List (List ℕ)) (seen : Seen) (ended : Ended) (run : IsRunOf 
       let told = done_reply solved.on.framework query solved.session solved.on.is (sym done ∙ solved.ends) in
       let Says : Row → Type 0 = λ row.
       WritesText row run.ending.kept run.ending.status (text_bytes run.ending.text)
-      × (map file_text run.ending.files
-      ≡ files_beside (common_text run.ending.status) (row.files run.ending.kept run.ending.status)) in
+      × AreFiles (common_text run.ending.status)
+      (row.Writes run.ending.kept run.ending.status (text_bytes run.ending.text)) (map file_text run.ending.files) in
       let P : Request → Type 0 = λ r. Says (row_of seen.files.holds r) in
       let Q : Option Solving → Type 0 = λ o. Says (solve_row seen.files.holds o texts) in
       let says = subst Q query_is
@@ -302,7 +269,7 @@ module _ (words : List (List ℕ)) (seen : Seen) (ended : Ended) (run : IsRunOf 
       says.0 ∙ session_text_is run.ending.kept.session solved.session told.reply keeps told.is
       in
       let files : map file_text run.ending.files ≡ certificate_files texts.certificate told.reply.certificate =
-      says.1
+      are_beside (common_text run.ending.status) (session_files texts.certificate run.ending.kept.session) (map file_text run.ending.files) says.1
       ∙ session_files_is run.ending.status texts.certificate run.ending.kept.session solved.session told.reply status
       keeps
       told.is in
@@ -404,8 +371,8 @@ module _ (words : List (List ℕ)) (seen : Seen) (ended : Ended) (run : IsRunOf 
       let keeps : run.ending.kept ≡ script_kept lives.transcript = sym run.kept ∙ lives.keeps in
       let Says : Row → Type 0 = λ row.
       WritesText row run.ending.kept run.ending.status (text_bytes run.ending.text)
-      × (map file_text run.ending.files
-      ≡ files_beside (common_text run.ending.status) (row.files run.ending.kept run.ending.status)) in
+      × AreFiles (common_text run.ending.status)
+      (row.Writes run.ending.kept run.ending.status (text_bytes run.ending.text)) (map file_text run.ending.files) in
       let P : Request → Type 0 = λ r. Says (row_of seen.files.holds r) in
       let Q : Option ℕ → Type 0 = λ o. Says (live_row seen.files.holds o texts) in
       let says = subst Q budget_is
@@ -414,7 +381,8 @@ module _ (words : List (List ℕ)) (seen : Seen) (ended : Ended) (run : IsRunOf 
       said_done run.ending.status (λ t. t ≡ script_text run.ending.kept.script) (text_bytes run.ending.text) status
       says.0 ∙ ap (λ (k : Transcript). script_text k.script) keeps in
       let files : map file_text run.ending.files ≡ certificates_files texts.certificate lives.transcript =
-      says.1 ∙ script_files_is run.ending.status texts.certificate run.ending.kept lives.transcript status keeps in
+      are_beside (common_text run.ending.status) (script_files texts.certificate run.ending.kept.script) (map file_text run.ending.files) says.1
+      ∙ script_files_is run.ending.status texts.certificate run.ending.kept lives.transcript status keeps in
       record {
         budget = budget;
         budget_is = budget_is;
@@ -477,8 +445,8 @@ module _ (words : List (List ℕ)) (seen : Seen) (ended : Ended) (run : IsRunOf 
       let status : run.ending.status ≡ Done = sym both.0 ∙ done in
       let Says : Row → Type 0 = λ row.
       WritesText row run.ending.kept run.ending.status (text_bytes run.ending.text)
-      × (map file_text run.ending.files
-      ≡ files_beside (common_text run.ending.status) (row.files run.ending.kept run.ending.status)) in
+      × AreFiles (common_text run.ending.status)
+      (row.Writes run.ending.kept run.ending.status (text_bytes run.ending.text)) (map file_text run.ending.files) in
       let P : Request → Type 0 = λ r. Says (row_of seen.files.holds r) in
       let Q : Option LargeInput → Type 0 = λ o. Says (bench_row o) in
       let says = subst Q large_is
@@ -487,7 +455,8 @@ module _ (words : List (List ℕ)) (seen : Seen) (ended : Ended) (run : IsRunOf 
       said_done run.ending.status (λ t. t ≡ summary large.arguments large.seed) (text_bytes run.ending.text) status
       says.0 in
       let files : map file_text run.ending.files ≡ [] =
-      says.1 ∙ ap (λ e. files_beside (common_text e) []) status in
+      are_beside (common_text run.ending.status) ([]) (map file_text run.ending.files) says.1
+      ∙ ap (λ e. files_beside (common_text e) []) status in
       record {
         large = large;
         large_is = large_is;
@@ -552,8 +521,8 @@ module _ (words : List (List ℕ)) (seen : Seen) (ended : Ended) (run : IsRunOf 
       let status : run.ending.status ≡ Done = sym both.0 ∙ done in
       let Says : Row → Type 0 = λ row.
       WritesText row run.ending.kept run.ending.status (text_bytes run.ending.text)
-      × (map file_text run.ending.files
-      ≡ files_beside (common_text run.ending.status) (row.files run.ending.kept run.ending.status)) in
+      × AreFiles (common_text run.ending.status)
+      (row.Writes run.ending.kept run.ending.status (text_bytes run.ending.text)) (map file_text run.ending.files) in
       let P : Request → Type 0 = λ r. Says (row_of seen.files.holds r) in
       let Q : Option Naming → Type 0 = λ o. Says (names_row seen.files.holds o texts) in
       let says = subst Q naming_is
@@ -570,7 +539,7 @@ module _ (words : List (List ℕ)) (seen : Seen) (ended : Ended) (run : IsRunOf 
       let told = done_reply (af answers.framework) (solving_of naming answers.asked) said.session answers.is ends_so in
       let text = answers.text_is ∙ ap (named_reply answers.names) told.is in
       let files : map file_text run.ending.files ≡ certificate_files texts.certificate told.reply.certificate =
-      says.1
+      are_beside (common_text run.ending.status) (session_files texts.certificate run.ending.kept.session) (map file_text run.ending.files) says.1
       ∙ session_files_is run.ending.status texts.certificate run.ending.kept.session said.session told.reply status
       said.keeps told.is in
       record {
@@ -645,13 +614,14 @@ module _ (words : List (List ℕ)) (seen : Seen) (ended : Ended) (run : IsRunOf 
       let status : run.ending.status ≡ Done = sym both.0 ∙ done in
       let Says : Row → Type 0 = λ row.
       WritesText row run.ending.kept run.ending.status (text_bytes run.ending.text)
-      × (map file_text run.ending.files
-      ≡ files_beside (common_text run.ending.status) (row.files run.ending.kept run.ending.status)) in
+      × AreFiles (common_text run.ending.status)
+      (row.Writes run.ending.kept run.ending.status (text_bytes run.ending.text)) (map file_text run.ending.files) in
       let P : Request → Type 0 = λ r. Says (row_of seen.files.holds r) in
       let Q : Option NameFormat → Type 0 = λ o. Says (af_row seen.files.holds o texts) in
       let says = subst Q format_is (subst P (requested_af words texts asks) (run.decided.text, run.decided.files)) in
       let files : map file_text run.ending.files ≡ [] =
-      says.1 ∙ ap (λ e. files_beside (common_text e) []) status in
+      are_beside (common_text run.ending.status) ([]) (map file_text run.ending.files) says.1
+      ∙ ap (λ e. files_beside (common_text e) []) status in
       record {
         format = format;
         format_is = format_is;
@@ -747,6 +717,44 @@ module _ (words : List (List ℕ)) (seen : Seen) (ended : Ended) (run : IsRunOf 
       (λ whole. refuses_long_cnf seen.files words texts bytes other asks ended.kept ended.status long
       (at_lrat texts asks.asks whole)) (write_fault_or ended.status)
 
+  -- ---- exports
+
+  at_export : (texts : ExportTexts) (by : Option Exporting) → IsExportQuery words texts → exporting_by texts ≡ by
+      → ended.status ≢ WriteFault
+      → EndsCommand seen.files (export_row seen.files.holds by texts) ended.kept ended.status
+  at_export texts by asks wanted_is whole =
+      let P : Request → Type 0 = λ r. EndsCommand seen.files (row_of seen.files.holds r) ended.kept ended.status in
+      let Q : Option Exporting → Type 0 =
+      λ o. EndsCommand seen.files (export_row seen.files.holds o texts) ended.kept ended.status in
+      subst Q wanted_is (subst P (requested_export words texts asks) (ends whole))
+
+  -- an export that is done has written the texts
+  export_written : (texts : ExportTexts) → IsExportQuery words texts → ended.status ≡ Done → WritesExported seen texts
+  export_written texts asks done =
+      let broken : ended.status ≢ WriteFault = λ e. let x : Done ≡ WriteFault = sym done ∙ e in cc in
+      let both = run.whole broken in
+      let P : Request → Type 0 = λ r.
+      AreFiles (common_text run.ending.status) ((row_of seen.files.holds r).Writes run.ending.kept run.ending.status
+      (text_bytes run.ending.text)) (map file_text run.ending.files) in
+      export_writes seen texts (exporting_by texts) run.ending ended.kept refl (sym both.0 ∙ done)
+      (subst (EndsCommand seen.files (export_row seen.files.holds (exporting_by texts) texts) ended.kept) done
+      (at_export texts (exporting_by texts) asks refl broken))
+      (subst P (requested_export words texts asks) run.decided.files) both.1.text both.1.files
+
+  complete_export : (texts : ExportTexts) (wanted : Exporting) (f : AnyFramework) (answer : Answer)
+      (certificate : Certificate) → ExportContents seen.files words texts wanted f answer certificate
+      → IsExportEnd f wanted answer certificate ended.status
+  complete_export texts wanted f answer certificate contents = ⊎_elim
+      (λ broken. let P : Status → Type 0 = IsExportEnd f wanted answer certificate in subst P (sym broken) tt)
+      (λ whole. ends_export seen.files words texts wanted f answer certificate contents ended.kept ended.status
+      (at_export texts (Some wanted) contents.query contents.asks whole)) (write_fault_or ended.status)
+
+  -- words that ask for no refutation are refused
+  no_export : (texts : ExportTexts) → IsExportQuery words texts → exporting_by texts ≡ None
+      → RefusesWords ended.status
+  no_export texts asks none =
+      refuses_words seen.files ended.kept ended.status (λ whole. at_export texts None asks none whole)
+
   -- ---- all of it
 
   pub promises : Promises words seen ended
@@ -786,6 +794,9 @@ module _ (words : List (List ℕ)) (seen : Seen) (ended : Ended) (run : IsRunOf 
     complete_lrat = complete_refutation;
     faulty_cnf = faulty_formula;
     long_cnf = long_formula;
+    exported = export_written;
+    complete_export = complete_export;
+    no_export = no_export;
     write_fault = write_fault;
     output_fault = output_fails;
     other_files = other_files;

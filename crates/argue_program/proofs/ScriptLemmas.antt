@@ -91,9 +91,10 @@ module _ (found : Reading) (by : Option ℕ) (texts : LiveTexts) (ending : Endin
         });
         text = text_done ending.status (λ t. t ≡ script_text ending.kept.script) (text_bytes ending.text) ends.status
             (ends.text ∙ sym (ap script_text keeps));
-        files = ends.files
+        files = beside_are (common_text ending.status) (script_files texts.certificate ending.kept.script)
+            (map file_text ending.files) (ends.files
             ∙ sym (ap (λ e. files_beside (common_text e) (script_files texts.certificate ending.kept.script)) ends.status
-            ∙ ap (script_files texts.certificate) keeps);
+            ∙ ap (script_files texts.certificate) keeps));
         counts = CountsReads-none found (live_row found.holds (Some budget) texts) ending.status quiet;
       })
 

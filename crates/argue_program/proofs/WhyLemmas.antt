@@ -3,17 +3,19 @@ use Rattle.std.proofs.Common.{◌≡◌, ◌≢◌, ℕ, List, [], ◌∷◌, re
 use Rattle.argue_outside.specs.Outside.{KnownFile}
 use Rattle.argue_words.specs.Words.{AfTexts, CheckTexts, IsNamesQuery, IsSolveQuery, LiveTexts, NamesTexts, Request}
 use Rattle.argue_words.specs.Words.{SolveTexts, version, problems, solving, checking, living, benching, by_name}
-use Rattle.argue_words.specs.Words.{numbering, verifying, unknown, requested}
+use Rattle.argue_words.specs.Words.{ExportTexts, numbering, verifying, exporting, unknown, requested}
 use Rattle.argue_words.proofs.RequestLaws.{names_requested_by, query_requested}
 use Rattle.apx_tgf.specs.declared.format.NameFormat.{NameFormat}
 use Rattle.named_commands.specs.Namings.{format_named, naming_by}
 use Rattle.named_commands.specs.declared.naming.Naming.{Naming}
 use Rattle.lrat_text.specs.CnfText.{Formula}
+use Rattle.lrat_commands.specs.Exporting.{ExportEnds, exporting_by}
 use Rattle.lrat_commands.specs.Verifying.{LratEnds}
+use Rattle.lrat_commands.specs.declared.exporting.Exporting.{Exporting}
 use Rattle.semantics.specs.Frameworks.{Framework as AnyFramework}
 use Rattle.argue_commands.specs.Inputs.{Input, Reading, StopsAt, StopsAtFirst}
 use Rattle.argue_program.specs.Rows.{EndsCommand, af_row, bench_row, check_row, live_row, names_row, row_of}
-use Rattle.argue_program.specs.Rows.{solve_row}
+use Rattle.argue_program.specs.Rows.{export_row, solve_row}
 use Rattle.iccma_tasks.specs.Tasks.{Asked}
 use Rattle.argue_program.specs.LargeInputs.{large_by}
 use Rattle.argue_commands.specs.Queries.{asked_by, budget_of, solving_by}
@@ -141,6 +143,25 @@ lrat_why f bytes WriteFault why ends = why
 lrat_why f bytes WantOfMemory why ends = why
 lrat_why f bytes (Rejected rejection) why ends = why
 
+no_export_why : (f : AnyFramework) (asked : Asked) (answer : Answer) (certificate : Certificate) (number : ℕ)
+    (end : Status) → SaysWhy end → ¬ ExportEnds f asked answer certificate number end
+no_export_why f asked answer certificate number Unknown why ends = ends
+no_export_why f asked answer certificate number (Limit l) why ends = ends
+no_export_why f asked answer certificate number Done why ends = why
+no_export_why f asked answer certificate number Usage why ends = why
+no_export_why f asked answer certificate number (InputRefused refusal) why ends = why
+no_export_why f asked answer certificate number (ReadFault r) why ends = why
+no_export_why f asked answer certificate number WriteFault why ends = why
+no_export_why f asked answer certificate number WantOfMemory why ends = why
+no_export_why f asked answer certificate number (Rejected rejection) why ends = why
+
+export_why : (holds : List ℕ → KnownFile) (by : Option Exporting) (texts : ExportTexts) (kept : Transcript)
+    (end : Status) → SaysWhy end → ¬ (export_row holds by texts).Ends kept end
+export_why holds None texts kept end why unasked = not_why end Usage why (λ w. w) unasked.1
+export_why holds (Some wanted) texts kept end why exports =
+    no_export_why exports.1.framework wanted.query exports.1.answer exports.1.certificate wanted.number end why
+    exports.1.ends
+
 pub keeps_asked : (found : Reading) (words : List (List ℕ)) (request : Request) (kept : Transcript) (end : Status)
     → SaysWhy end → requested words ≡ request → EndsCommand found (row_of found.holds request) kept end
     → KeepsAsked words found.holds kept end
@@ -163,6 +184,8 @@ keeps_asked found words (numbering texts) kept end why asked (inr ends) =
     absurd (af_why found.holds (format_named texts.kind) texts kept end why ends)
 keeps_asked found words (verifying texts) kept end why asked (inr ends) =
     absurd (lrat_why ends.1.formula ends.1.bytes end why ends.1.ends)
+keeps_asked found words (exporting texts) kept end why asked (inr ends) =
+    absurd (export_why found.holds (exporting_by texts) texts kept end why ends)
 keeps_asked found words (solving texts) kept end why asked (inr ends) =
     solve_why found words texts (solving_by texts) kept end why (query_requested words texts asked) refl ends
 

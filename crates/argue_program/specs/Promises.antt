@@ -6,13 +6,16 @@ use Rattle.argue_outside.specs.declared.Role.TheVariants as role
 use Rattle.semantics.specs.Framework.{Af}
 use Rattle.semantics.specs.Frameworks.{Framework}
 use Rattle.num_text.specs.declared.limit.TheConstants.{MAX_INPUT}
+use Rattle.argue_words.specs.Words.{ExportTexts, IsExportQuery}
 use Rattle.argue_words.specs.Words.{AfTexts, AreWords, BenchTexts, CheckTexts, IsAfQuery, IsBenchQuery, IsCheckQuery}
 use Rattle.argue_words.specs.Words.{IsLiveQuery, IsLratQuery, IsNamesQuery, IsSolveQuery, LiveTexts, LratTexts}
 use Rattle.argue_words.specs.Words.{NamesTexts, SolveTexts}
 use Rattle.argue_words.specs.Words.{requested, words_are_problems}
 use Rattle.apx_tgf.specs.declared.format.NameFormat.{NameFormat}
 use Rattle.lrat_text.specs.CnfText.{Formula}
+use Rattle.lrat_commands.specs.Exporting.{exporting_by}
 use Rattle.lrat_commands.specs.Verifying.{IsUnsatisfiableOf}
+use Rattle.lrat_commands.specs.declared.exporting.Exporting.{Exporting}
 use Rattle.named_commands.specs.Namings.{format_named, naming_by}
 use Rattle.named_commands.specs.declared.naming.Naming.{Naming}
 use Rattle.iccma_tasks.specs.Tasks.{Asked}
@@ -32,6 +35,7 @@ use Rattle.argue_program.specs.Runs.{AnswersRight, AsksSession, AsksTranscript, 
 use Rattle.argue_program.specs.Runs.{IsFaultyNamed, IsNamesEnd, NamedBytes, NamesContents, NumbersContents}
 use Rattle.argue_program.specs.Runs.{RefusesNamed, WritesNamed, WritesNumbered}
 use Rattle.argue_program.specs.Runs.{CnfBytes, IsFaultyCnf, IsLratEnd, LratContents}
+use Rattle.argue_program.specs.Runs.{ExportContents, IsExportEnd, WritesExported}
 use Rattle.argue_program.specs.Runs.{IsCheckEnd, IsDoneOrMemory, IsFaultyScript, IsLiveEnd, IsSolveEnd}
 use Rattle.argue_program.specs.Runs.{LivesContents, NamesCertificate, QueriesBytes, RefusesBytes, RefusesLength}
 use Rattle.argue_program.specs.Runs.{RefusesWords, ScriptsBytes, SolvesContents, SpendsBudget, WritesAnswer}
@@ -153,18 +157,28 @@ pub record Promises (words : List (List ℕ)) (seen : Seen) (ended : Ended) : Ty
   -- one over the limit is refused for its length
   pub long_cnf : (texts : LratTexts) (bytes other : List ℕ) → CnfBytes seen.files words texts bytes other
       → MAX_INPUT < length bytes → RefusesLength ended.status
+  -- ---- exports
+  -- an export that is done has written the texts of the refutation, whose certificate is accepted
+  pub exported : (texts : ExportTexts) → IsExportQuery words texts → ended.status ≡ Done → WritesExported seen texts
+  -- one of files that read as something, with no fault, ends as these say, or wants memory
+  pub complete_export : (texts : ExportTexts) (wanted : Exporting) (f : Framework) (answer : Answer)
+      (certificate : Certificate) → ExportContents seen.files words texts wanted f answer certificate
+      → IsExportEnd f wanted answer certificate ended.status
+  -- one that asks for no refutation is refused
+  pub no_export : (texts : ExportTexts) → IsExportQuery words texts → exporting_by texts ≡ None
+      → RefusesWords ended.status
   -- ---- faults and files
   -- a write fault was counted
   pub write_fault : ended.status ≡ WriteFault
       → FaultCounted seen.before.fault_count seen.after.fault_count
       ⊎ FaultCounted seen.before.write_count seen.after.write_count
-  -- and by the output where each name for certificates is accepted
+  -- and by the output where each name for certificates and texts of refutations is accepted
   pub output_fault : ((name : List ℕ) → NamesCertificate words name → seen.Accepts name)
       → ended.status ≡ WriteFault → FaultCounted seen.before.fault_count seen.after.fault_count
-  -- no file changes but that for certificates
+  -- no file changes but those for certificates and texts of refutations
   pub other_files : (name : List ℕ) → ¬ NamesCertificate words name
       → seen.after.holds name ≡ seen.before.holds name
-  -- and that one only where the run is done or its writing fails
+  -- and those only where the run is done or its writing fails
   pub untouched : ended.status ≢ Done → ended.status ≢ WriteFault → seen.after.holds ≡ seen.before.holds
   -- a fault of writing files is counted only where the run ends by it
   pub no_write : ended.status ≢ WriteFault → seen.after.write_count ≡ seen.before.write_count

@@ -7,9 +7,10 @@ use Rattle.bench_runs.specs.oracle_core.specs.declared.reply.AnswerStop.{AnswerS
 use Rattle.bench_runs.specs.oracle_core.specs.declared.reply.Answered.{Answered}
 use Rattle.argue_outside.specs.declared.Role.{Role}
 use Rattle.argue_outside.specs.declared.Role.TheVariants.{Framework}
-use Rattle.argue_words.specs.Words.{AfTexts, CheckTexts, LiveTexts, LratTexts, NamesTexts, Request, SolveTexts}
+use Rattle.argue_words.specs.Words.{AfTexts, CheckTexts, ExportTexts, LiveTexts, LratTexts, NamesTexts, Request}
+use Rattle.argue_words.specs.Words.{SolveTexts}
 use Rattle.argue_words.specs.Words.{version, problems, solving, checking, living, benching, by_name, numbering}
-use Rattle.argue_words.specs.Words.{verifying, unknown}
+use Rattle.argue_words.specs.Words.{verifying, exporting, unknown}
 use Rattle.iccma_tasks.specs.Tasks.{Asked, tasks_line}
 use Rattle.argue_commands.specs.Checks.{ChecksFiles, check_inputs}
 use Rattle.argue_program.specs.LargeInputs.{large_by}
@@ -22,7 +23,10 @@ use Rattle.argue_commands.specs.declared.query.Solving.{Solving}
 use Rattle.apx_tgf.specs.declared.format.NameFormat.{NameFormat}
 use Rattle.argue_commands.specs.Inputs.{Input, Reading, StopsAtFirst, input, named_input}
 use Rattle.argue_commands.specs.declared.ended.Refusal.TheVariants.{UnknownName}
+use Rattle.lrat_commands.specs.Exporting.{ExportsFiles, IsExported, exported_files, exported_text, exporting_by}
 use Rattle.lrat_commands.specs.Verifying.{VerifiesFiles, lrat_inputs}
+use Rattle.lrat_commands.specs.declared.exporting.Exporting.{Exporting}
+use Rattle.refutation_logs.specs.declared.texts.Exported.{Exported}
 use Rattle.named_commands.specs.Namings.{AnswersNamedFile, AsksUnknownOf, format_named, naming_by}
 use Rattle.named_commands.specs.Numberings.{IsNumberedOf}
 use Rattle.named_commands.specs.declared.naming.Naming.{Naming}
@@ -48,7 +52,7 @@ pub record Row : Type 1 where
   pub takes_memory : Bool  -- it may end for want of memory
   pub Ends : Transcript → Status → Type 0  -- how it may end, and what it keeps, once its inputs are read and sound
   pub Says : Transcript → Status → List ℕ → Type 0  -- the text that it then writes, where the status has none of its own
-  pub files : Transcript → Status → List FileText  -- the files that it then writes, before the text and in this order
+  pub Writes : Transcript → Status → List ℕ → List FileText → Type 0  -- the files that it then writes before that text
 
 -- a run that keeps nothing
 abbrev pub nothing_kept : Transcript
@@ -105,7 +109,7 @@ version_row = record {
   takes_memory = false;
   Ends = EndsDone;
   Says = λ kept end text. text ≡ codes "argue 1.0\n";
-  files = λ kept end. [];
+  Writes = λ kept end text files. files ≡ [];
 }
 
 abbrev pub unknown_row : Row
@@ -114,7 +118,7 @@ unknown_row = record {
   takes_memory = true;
   Ends = EndsUnasked;
   Says = λ kept end text. text ≡ [];
-  files = λ kept end. [];
+  Writes = λ kept end text files. files ≡ [];
 }
 
 -- `--problems`: the list of the tasks that there are
@@ -124,7 +128,7 @@ problems_row = record {
   takes_memory = true;
   Ends = EndsDone;
   Says = λ kept end text. text ≡ tasks_line;
-  files = λ kept end. [];
+  Writes = λ kept end text files. files ≡ [];
 }
 
 -- the answer to a query, or words that ask none
@@ -135,7 +139,7 @@ solve_row holds (Some query) texts = record {
   takes_memory = true;
   Ends = EndsSolved (holds texts.file) query;
   Says = λ kept end text. text ≡ session_text kept.session;
-  files = λ kept end. session_files texts.certificate kept.session;
+  Writes = λ kept end text files. files ≡ session_files texts.certificate kept.session;
 }
 
 -- it keeps nothing, and ends as the check of the files does
@@ -150,7 +154,7 @@ check_row holds (Some asked) texts = record {
   takes_memory = true;
   Ends = EndsChecked holds asked texts;
   Says = λ kept end text. text ≡ codes "ACCEPTED\n";
-  files = λ kept end. [];
+  Writes = λ kept end text files. files ≡ [];
 }
 
 -- the sessions of the script have run on the framework in its file, and it keeps what they came to
@@ -185,7 +189,7 @@ live_row holds (Some budget) texts = record {
   takes_memory = true;
   Ends = EndsLive holds budget texts;
   Says = λ kept end text. text ≡ script_text kept.script;
-  files = λ kept end. script_files texts.certificate kept.script;
+  Writes = λ kept end text files. files ≡ script_files texts.certificate kept.script;
 }
 
 -- the sessions of the large input have run, and it keeps what they came to
@@ -203,7 +207,7 @@ bench_row (Some large) = record {
   takes_memory = true;
   Ends = EndsLarge large;
   Says = λ kept end text. text ≡ summary large.arguments large.seed;
-  files = λ kept end. [];
+  Writes = λ kept end text files. files ≡ [];
 }
 
 -- it keeps the session of the query by names, and ends as its reply says
@@ -238,7 +242,7 @@ names_row holds (Some naming) texts = record {
   Ends = λ kept end. EndsNamed (holds texts.file) naming texts.name kept end
       ⊎ EndsUnnamed (holds texts.file) naming texts.name kept end;
   Says = λ kept end text. SaysNamed (holds texts.file) naming texts.name kept text;
-  files = λ kept end. session_files texts.certificate kept.session;
+  Writes = λ kept end text files. files ≡ session_files texts.certificate kept.session;
 }
 
 -- it is done, and keeps nothing: the framework in the file has a text with numbers
@@ -256,7 +260,7 @@ af_row holds (Some format) texts = record {
   takes_memory = true;
   Ends = EndsNumbered (holds texts.file) format;
   Says = λ kept end text. IsNumberedOf (holds texts.file) format text;
-  files = λ kept end. [];
+  Writes = λ kept end text files. files ≡ [];
 }
 
 -- it keeps nothing, and ends as the check of the CNF with the refutation does
@@ -270,7 +274,30 @@ lrat_row holds texts = record {
   takes_memory = true;
   Ends = EndsVerified holds texts;
   Says = λ kept end text. text ≡ codes "VERIFIED\n";
-  files = λ kept end. [];
+  Writes = λ kept end text files. files ≡ [];
+}
+
+-- it keeps nothing, and ends as the export of what the files read as does
+abbrev pub EndsExported : (List ℕ → KnownFile) → Exporting → ExportTexts → Transcript → Status → Type 0
+EndsExported holds wanted texts kept end = (kept ≡ nothing_kept) × ExportsFiles holds wanted texts.check end
+
+-- the line and the files are those of the texts of the refutation
+pub record WritesExport (holds : List ℕ → KnownFile) (wanted : Exporting) (texts : ExportTexts) (text : List ℕ)
+    (files : List FileText) : Type 0 where
+  pub exported : Exported
+  pub is : IsExported holds wanted texts.check exported
+  pub text_is : text ≡ exported_text exported
+  pub files_are : files ≡ exported_files texts.output exported
+
+-- the texts of a refutation of a certificate, or words that ask for none
+abbrev pub export_row : (List ℕ → KnownFile) → Option Exporting → ExportTexts → Row
+export_row holds None texts = unknown_row
+export_row holds (Some wanted) texts = record {
+  inputs = check_inputs texts.check;
+  takes_memory = true;
+  Ends = EndsExported holds wanted texts;
+  Says = λ kept end text. (files : List FileText) × WritesExport holds wanted texts text files;
+  Writes = λ kept end text files. WritesExport holds wanted texts text files;
 }
 
 -- the table: what is known of the files matters to some rows
@@ -284,6 +311,7 @@ row_of holds (benching texts) = bench_row (large_by texts)
 row_of holds (by_name texts) = names_row holds (naming_by texts) texts
 row_of holds (numbering texts) = af_row holds (format_named texts.kind) texts
 row_of holds (verifying texts) = lrat_row holds texts
+row_of holds (exporting texts) = export_row holds (exporting_by texts) texts
 row_of holds unknown = unknown_row
 
 -- ---- the cause of an ending
@@ -307,6 +335,11 @@ abbrev pub files_beside : Option (List ℕ) → List FileText → List FileText
 files_beside None files = files
 files_beside (Some text) files = []
 
+-- the same of a row whose files are said by what holds of them
+abbrev pub AreFiles : Option (List ℕ) → (List FileText → Type 0) → List FileText → Type 0
+AreFiles None Writes files = Writes files
+AreFiles (Some text) Writes files = files ≡ []
+
 -- a role in which the row reads no input
 abbrev pub HasNoInput : Row → Role → Type 0
 HasNoInput row role = (input : Input) → Contains row.inputs input → role ≢ input.role
@@ -320,8 +353,8 @@ pub record CountsReads (found : Reading) (row : Row) (end : Status) : Type 0 whe
 pub record IsEndingOf (found : Reading) (row : Row) (ending : Ending) : Type 0 where
   pub cause : EndsCommand found row ending.kept ending.status
   pub text : WritesText row ending.kept ending.status (text_bytes ending.text)
-  pub files :
-      map file_text ending.files ≡ files_beside (common_text ending.status) (row.files ending.kept ending.status)
+  pub files : AreFiles (common_text ending.status) (row.Writes ending.kept ending.status (text_bytes ending.text))
+      (map file_text ending.files)
   pub counts : CountsReads found row ending.status
 
 -- the ending is one that the row of the request has
@@ -358,3 +391,10 @@ pub record EndsSummed (run : BenchRun) (ending : Ending) : Type 0 where
   pub keeps : ending.kept ≡ script_kept run.transcript
   pub text : text_bytes ending.text ≡ run.summary
   pub files : ending.files ≡ []
+
+-- the ending of an export that is done: it keeps nothing, and writes the line and the files of the texts
+pub record EndsExport (exported : Exported) (output : List ℕ) (ending : Ending) : Type 0 where
+  pub status : ending.status ≡ Done
+  pub keeps : ending.kept ≡ nothing_kept
+  pub text : text_bytes ending.text ≡ exported_text exported
+  pub files : map file_text ending.files ≡ exported_files output exported

@@ -8,6 +8,7 @@ use Rattle.semantics.specs.Framework.{Af}
 use Rattle.semantics.specs.Frameworks.{Framework, af}
 use Rattle.num_text.specs.declared.limit.TheConstants.{MAX_INPUT}
 use Rattle.argue_words.specs.Words.{AfTexts, BenchTexts, CheckTexts, IsAfQuery, IsBenchQuery, IsCheckQuery, IsLiveQuery}
+use Rattle.argue_words.specs.Words.{ExportTexts, IsExportQuery}
 use Rattle.argue_words.specs.Words.{IsLratQuery, IsNamesQuery, IsSolveQuery, LiveTexts, LratTexts, NamesTexts, SolveTexts}
 use Rattle.argue_words.specs.Words.{requested}
 use Rattle.apx_tgf.specs.Faults.{IsFirstFault as IsFirstNameFault}
@@ -17,7 +18,11 @@ use Rattle.apx_tgf.specs.declared.fault.NameCause.{NameCause}
 use Rattle.apx_tgf.specs.declared.format.NameFormat.{NameFormat}
 use Rattle.lrat_text.specs.CnfText.{Formula, IsCnfFault, IsCnfText}
 use Rattle.lrat_text.specs.declared.fault.CnfCause.{CnfCause}
+use Rattle.lrat_commands.specs.Exporting.{ExportEnds, IsExported, cnf_name, exported_files, exported_text}
+use Rattle.lrat_commands.specs.Exporting.{exporting_by, lrat_name}
 use Rattle.lrat_commands.specs.Verifying.{LratEnds}
+use Rattle.lrat_commands.specs.declared.exporting.Exporting.{Exporting}
+use Rattle.refutation_logs.specs.declared.texts.Exported.{Exported}
 use Rattle.named_commands.specs.NamedTexts.{named_answer}
 use Rattle.named_commands.specs.Namings.{IsAskedBy, IsNamedOf, IsUnknown, format_named, naming_by, solving_of}
 use Rattle.named_commands.specs.Numberings.{IsNumberedOf}
@@ -179,9 +184,16 @@ pub record NamesNamedFile (words : List (List ℕ)) (name : List ℕ) : Type 0 w
   pub asks : IsNamesQuery words texts
   pub named : texts.certificate ≡ Some name
 
--- the words name this file for certificates
+-- the name is that of a file of the words' export: it has the name that they state, and an ending
+pub record NamesExportFile (words : List (List ℕ)) (name : List ℕ) : Type 0 where
+  pub texts : ExportTexts
+  pub asks : IsExportQuery words texts
+  pub named : (name ≡ cnf_name texts.output) ⊎ (name ≡ lrat_name texts.output)
+
+-- the words name this file, for certificates or for the texts of a refutation of one
 abbrev pub NamesCertificate : List (List ℕ) → List ℕ → Type 0
-NamesCertificate words name = NamesAnswerFile words name ⊎ (NamesScriptFile words name ⊎ NamesNamedFile words name)
+NamesCertificate words name =
+    NamesAnswerFile words name ⊎ (NamesScriptFile words name ⊎ (NamesNamedFile words name ⊎ NamesExportFile words name))
 
 -- the run keeps the query's session on the framework, and ends as its reply says
 pub record EndsAsReplied (f : Framework) (query : Solving) (kept : Transcript) (end : Status) : Type 0 where
@@ -482,3 +494,34 @@ pub record CnfBytes (found : Reading) (words : List (List ℕ)) (texts : LratTex
 -- the bytes have a first fault
 abbrev pub IsFaultyCnf : List ℕ → Type 0
 IsFaultyCnf bytes = (line : ℕ) × (cause : CnfCause) × IsCnfFault bytes line cause
+
+-- ---- exports
+
+-- the words ask for an export of this refutation: the files have the texts of the refutation of the certificate that its
+-- file reads as, which is accepted, and the output has gained the line with their numbers. Each text was written for a
+-- name of its own, and where they are short enough the one is verified by the other (`IsExported`).
+pub record WritesExported (seen : Seen) (texts : ExportTexts) : Type 0 where
+  pub wanted : Exporting
+  pub wanted_is : exporting_by texts ≡ Some wanted
+  pub exported : Exported
+  pub is : IsExported seen.files.holds wanted texts.check exported
+  pub text : Appends seen.before.contents seen.after.contents (exported_text exported)
+  pub files : WritesFiles (exported_files texts.output exported) seen.before.holds seen.after.holds
+
+-- the words ask for an export of this refutation, and the files read as these
+pub record ExportContents (found : Reading) (words : List (List ℕ)) (texts : ExportTexts) (wanted : Exporting)
+    (f : Framework) (answer : Answer) (certificate : Certificate) : Type 0 where
+  pub query : IsExportQuery words texts
+  pub asks : exporting_by texts ≡ Some wanted
+  pub of_framework : HasText found (input (role.Framework 1) texts.check.file) (λ bytes. ReadsAs bytes f)
+  pub of_answer : HasText found (input role.Answer texts.check.answer)
+      (λ bytes. AnswerReadsAs (filled_fields bytes) answer)
+  pub of_certificate : HasText found (input role.Certificate texts.check.certificate)
+      (λ bytes. CertReadsAs bytes (Ok certificate))
+
+-- an export ends as its framework, query, answer, certificate and number say, but for want of memory or a write fault:
+-- where the certificate is accepted it is done where there is a refutation of the number, and else the number is refused
+abbrev pub IsExportEnd : Framework → Exporting → Answer → Certificate → Status → Type 0
+IsExportEnd f wanted answer certificate WantOfMemory = Unit {0}
+IsExportEnd f wanted answer certificate WriteFault = Unit {0}
+IsExportEnd f wanted answer certificate end = ExportEnds f wanted.query answer certificate wanted.number end

@@ -10,6 +10,7 @@ ghost use Rattle.argue_program.specs.Rows.{IsEndingFor};
 
 use crate::checking::check;
 use crate::ending::{Ending, done_ending, status_ending};
+use crate::exporting::export;
 use crate::large::bench;
 use crate::naming::names;
 use crate::numbering::af;
@@ -46,6 +47,7 @@ fn decide_command<F: Files>(alloc: Global, command: Command, files: &mut F) -> E
         Command::Names(words) => names(alloc, files, words),
         Command::Af(words) => af(alloc, files, words),
         Command::Lrat(words) => lrat(alloc, files, words),
+        Command::Export(words) => export(alloc, files, words),
         Command::Live(_) | Command::Bench(_) => unreachable!(),
         Command::Unknown => status_ending(alloc, Status::Usage),
     }

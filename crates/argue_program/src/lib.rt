@@ -10,6 +10,7 @@ pub mod command;
 pub mod decision;
 pub mod ended;
 pub mod ending;
+mod exporting;
 mod large;
 mod naming;
 mod numbering;

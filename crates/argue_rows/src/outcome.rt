@@ -64,8 +64,19 @@ fn status_of<R: Threads + Wait + Sync>(
     code
 }
 
+/// A name and the text of a file that only a run makes, where it did.
+fn made(alloc: Global, files: &mut MemFiles, name: &str) -> Result<String, AllocError> {
+    match read_all(alloc, files, Role::Certificate, name, MAX_BYTES) {
+        Ok(bytes) => {
+            let text = with_semicolons(alloc, bytes.as_slice())?;
+            format!(in alloc; " {name}: {text}")
+        }
+        Err(_) => Ok(String::new(alloc)),
+    }
+}
+
 /// The exit status of a run with the files a, b and c, and what it writes, with `;` for the end of a line; and behind
-/// `c:` what it wrote to the file c, where it did.
+/// `c:`, `c.cnf:` and `c.lrat:` what it wrote to files of these names, where it did.
 pub fn run<R: Threads + Wait + Sync>(
     rt: &R,
     alloc: Global,
@@ -94,9 +105,11 @@ pub fn run<R: Threads + Wait + Sync>(
         Ok(bytes) => bytes,
         Err(_) => return Err(AllocError),
     };
+    let cnf = made(alloc, &mut files, "c.cnf")?;
+    let lrat = made(alloc, &mut files, "c.lrat")?;
     if held.as_slice() == certificate {
-        return format!(in alloc; "{code} {text}");
+        return format!(in alloc; "{code} {text}{cnf}{lrat}");
     }
     let written = with_semicolons(alloc, held.as_slice())?;
-    format!(in alloc; "{code} {text} c: {written}")
+    format!(in alloc; "{code} {text} c: {written}{cnf}{lrat}")
 }
