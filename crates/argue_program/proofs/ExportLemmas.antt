@@ -1,35 +1,43 @@
 -- How an export ends as its row says, and what follows.
-use Rattle.std.proofs.Common.{◌≡◌, ◌≢◌, ◌∙◌, ◌⊎◌, ℕ, List, [], ◌∷◌, refl, sym, ap, subst, inl, inr, arith, Option, None, Some, map, Ok}
+use Rattle.std.proofs.Common.{◌≡◌, ◌≢◌, ◌∙◌, ◌⊎◌, ℕ, List, [], ◌∷◌, refl, sym, subst, inl, inr, arith, Option, None}
+use Rattle.std.proofs.Common.{Some, map, Ok}
 use Rattle.std.specs.Io.KnownBytes.{Appends}
 use Rattle.argue_outside.specs.declared.Role.{Role}
 use Rattle.argue_outside.specs.declared.Role.TheVariants as role
-use Rattle.argue_words.specs.Words.{CheckTexts, ExportTexts}
-use Rattle.semantics.specs.Frameworks.{Framework as AnyFramework}
+use Rattle.argue_words.specs.Words.{ExportTexts}
+use Rattle.semantics.specs.Frameworks.{Framework as AnyFramework, aba, af}
 use Rattle.framework_text.specs.FrameworkText.{ReadsAs}
 use Rattle.framework_text.proofs.Readings.{ReadsAs-same}
 use Rattle.iccma_tasks.specs.AnswerText.{filled_fields, ReadsAs as AnswerReadsAs}
 use Rattle.iccma_tasks.specs.declared.answer.Answer.{Answer}
 use Rattle.iccma_tasks.proofs.Exact.{ReadsAs-unique}
 use Rattle.certificate_claims.specs.declared.certificate.Certificate.{Certificate}
+use Rattle.certificate_claims.specs.declared.verdict.Verdict.TheVariants.{Accepted, Rejected as IsRejected}
+use Rattle.certificate_claims.proofs.Verdicts.{one_verdict}
 use Rattle.certificate_text.specs.Reading.{ReadsAs as CertReadsAs}
 use Rattle.certificate_text.proofs.OneOutcome.{one_reading}
-use Rattle.argue_commands.specs.Checks.{IsAnswerOf, IsCertificateOf, check_inputs}
+use Rattle.edit_rules.specs.Fitting.{Fits, IsFaultOf}
+use Rattle.edit_rules.specs.declared.query_fault.QueryFault.{QueryFault}
+use Rattle.edit_rules.specs.declared.query_fault.QueryFault.TheVariants.{TaskNotForKind, UnknownArgument, UnknownAtom}
+use Rattle.iccma_tasks.specs.Tasks.{Asked}
+use Rattle.argue_commands.specs.Checks.{CheckEnds, IsAnswerOf, IsCertificateOf, check_inputs}
 use Rattle.argue_commands.specs.Inputs.{IsFrameworkOf, Reading, StopsAtFirst, input}
-use Rattle.argue_commands.specs.Replacing.{FileText, WritesFiles, file_text}
+use Rattle.argue_commands.specs.Replacing.{WritesFiles, file_text}
 use Rattle.argue_commands.specs.Texts.{IsRefusal, common_text, text_bytes}
 use Rattle.argue_commands.specs.declared.ended.Refusal.TheVariants.{Line, NoRefutation, Query, UnknownName}
+use Rattle.argue_commands.specs.declared.ended.Rejection.TheVariants as rejection
 use Rattle.argue_commands.specs.declared.ended.Status.{Status}
 use Rattle.argue_commands.specs.declared.ended.Status.TheVariants.{Done, Usage, InputRefused, ReadFault, WriteFault}
 use Rattle.argue_commands.specs.declared.ended.Status.TheVariants.{WantOfMemory, Unknown, Limit, Rejected}
 use Rattle.argue_commands.proofs.CheckLemmas.{answer_sound, certificate_sound, framework_sound}
 use Rattle.argue_commands.proofs.KnownLemmas.{bytes_at}
 use Rattle.lrat_commands.specs.Exporting.{EndsExporting, ExportEnds, ExportsFiles, IsExported, exported_files}
-use Rattle.lrat_commands.specs.Exporting.{exported_text, exporting_by}
+use Rattle.lrat_commands.specs.Exporting.{HasNoRefutation, HasRefutation, exported_text, exporting_by}
 use Rattle.lrat_commands.specs.declared.exporting.Exporting.{Exporting}
 use Rattle.refutation_logs.specs.declared.texts.Exported.{Exported}
 use Rattle.argue_program.specs.Rows.{AreFiles, CountsReads, EndsCommand, IsEndingOf, WritesExport, export_row}
 use Rattle.argue_program.specs.Rows.{nothing_kept, unknown_row}
-use Rattle.argue_program.specs.Runs.{ExportContents, IsExportEnd, WritesExported}
+use Rattle.argue_program.specs.Runs.{ExportContents, IsExportEnd, RefusesNumber, WritesExported}
 use Rattle.argue_program.specs.Seen.{Seen}
 use Rattle.argue_program.specs.declared.ended.Transcript.{Transcript}
 use Rattle.argue_program.specs.declared.ending.Ending.{Ending}
@@ -213,3 +221,43 @@ module _ (found : Reading) (words : List (List ℕ)) (texts : ExportTexts) (want
   ends_export kept end (inl (nothing, inr memory)) =
       let P : Status → Type 0 = IsExportEnd f wanted answer certificate in subst P (sym memory.0) tt
   ends_export kept end (inr exports) = exports_end end exports.1
+
+-- ---- numbers of no refutation
+
+not_both : (certificate : Certificate) (number : ℕ) → HasNoRefutation certificate number
+    → ¬ HasRefutation certificate number
+not_both certificate number (inl zero_is) has = let more = has.0 in omega arith
+not_both certificate number (inr over) has = let within = has.1 in omega arith
+
+-- a query that fits has no fault
+fits_unfaulty : (f : AnyFramework) (asked : Asked) (fault : QueryFault) → Fits f asked → ¬ IsFaultOf f asked fault
+fits_unfaulty (af f) asked TaskNotForKind fits faulty = faulty fits.task
+fits_unfaulty (af f) asked (UnknownArgument n) fits faulty = faulty.unknown (fits.known n faulty.number)
+fits_unfaulty (af f) asked (UnknownAtom n) fits faulty = faulty
+fits_unfaulty (aba f) asked TaskNotForKind fits faulty = faulty fits.task
+fits_unfaulty (aba f) asked (UnknownArgument n) fits faulty = faulty
+fits_unfaulty (aba f) asked (UnknownAtom n) fits faulty = faulty.unknown (fits.known n faulty.number)
+
+-- where the certificate is accepted and has no refutation of the number, the number is refused
+pub refuses_number : (f : AnyFramework) (wanted : Exporting) (answer : Answer) (certificate : Certificate) (end : Status)
+    → CheckEnds f wanted.query answer certificate Done → HasNoRefutation certificate wanted.number
+    → IsExportEnd f wanted answer certificate end → RefusesNumber wanted.number end
+refuses_number f wanted answer certificate Done accepts none ends =
+    not_both certificate wanted.number none ends.1
+refuses_number f wanted answer certificate Usage accepts none ends = ends
+refuses_number f wanted answer certificate (InputRefused (Line of line cause)) accepts none ends = ends
+refuses_number f wanted answer certificate (InputRefused (Query fault)) accepts none ends =
+    fits_unfaulty f wanted.query fault accepts.0 ends
+refuses_number f wanted answer certificate (InputRefused UnknownName) accepts none ends = ends
+refuses_number f wanted answer certificate (InputRefused (NoRefutation k)) accepts none ends = ends.0
+refuses_number f wanted answer certificate (ReadFault of) accepts none ends = ends
+refuses_number f wanted answer certificate WriteFault accepts none ends = tt
+refuses_number f wanted answer certificate WantOfMemory accepts none ends = tt
+refuses_number f wanted answer certificate Unknown accepts none ends = ends
+refuses_number f wanted answer certificate (Limit l) accepts none ends = ends
+refuses_number f wanted answer certificate (Rejected (rejection.Certificate failure refutation step)) accepts none ends =
+    let e : Accepted ≡ IsRejected failure refutation step =
+    one_verdict f wanted.query answer certificate Accepted (IsRejected failure refutation step) accepts.1 ends.1 in
+    cc
+refuses_number f wanted answer certificate (Rejected (rejection.Step id)) accepts none ends = ends
+refuses_number f wanted answer certificate (Rejected rejection.NoEmptyClause) accepts none ends = ends

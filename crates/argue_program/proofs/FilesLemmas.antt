@@ -1,19 +1,27 @@
 -- The text and the files of an ending.
-use Rattle.std.proofs.Common.{◌≡◌, ◌≢◌, ◌∙◌, ℕ, List, [], refl, sym, ap, subst, Option, None, Some, Ok}
-use Rattle.argue_commands.specs.Replacing.{FileText, certificate_files}
-use Rattle.argue_commands.specs.Texts.{common_text}
+use Rattle.std.proofs.Common.{◌≡◌, ◌≢◌, ◌∙◌, ℕ, List, [], refl, sym, ap, subst, Option, None, Some, Ok, map}
+use Rattle.argue_commands.specs.Replacing.{FileText, certificate_files, file_text}
+use Rattle.argue_commands.specs.Texts.{common_text, text_bytes}
 use Rattle.argue_commands.specs.declared.ended.KeptSession.{KeptSession}
 use Rattle.argue_commands.specs.declared.ended.Status.{Status}
 use Rattle.argue_commands.specs.declared.ended.Status.TheVariants.{Done, Usage, InputRefused, ReadFault, WriteFault}
 use Rattle.argue_commands.specs.declared.ended.Status.TheVariants.{WantOfMemory, Unknown, Limit, Rejected}
-use Rattle.argue_program.specs.Rows.{AreFiles, IsTextOf, certificates_files, files_beside, reply_files, reply_text}
-use Rattle.argue_program.specs.Rows.{script_files, script_kept, session_files, session_text}
+use Rattle.argue_program.specs.Rows.{AreFiles, IsTextOf, Row, WritesText, certificates_files, files_beside, reply_files}
+use Rattle.argue_program.specs.Rows.{reply_text, script_files, script_kept, session_files, session_text}
 use Rattle.argue_program.specs.declared.ended.Transcript.{Transcript}
+use Rattle.argue_program.specs.declared.ending.Ending.{Ending}
 use Rattle.bench_runs.specs.declared.transcript.ScriptTranscript.{ScriptTranscript}
 use Rattle.bench_runs.specs.oracle_core.specs.declared.reply.Answered.{Answered}
 use Rattle.iccma_tasks.specs.WrittenText.{text_of as answer_text}
 
 -- ---- files that a row says
+
+-- the ending has the text and the files of a row
+abbrev pub HasTexts : Ending → Row → Type 0
+HasTexts ending row =
+    WritesText row ending.kept ending.status (text_bytes ending.text)
+    × AreFiles (common_text ending.status) (row.Writes ending.kept ending.status (text_bytes ending.text))
+    (map file_text ending.files)
 
 pub beside_are : (said : Option (List ℕ)) (files list : List FileText) → list ≡ files_beside said files
     → AreFiles said (λ l. l ≡ files) list

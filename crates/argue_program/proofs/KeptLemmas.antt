@@ -1,13 +1,14 @@
 -- What a run writes and keeps: files of other names, a session, a transcript.
-use Rattle.std.proofs.Common.{◌≡◌, ◌≢◌, ◌∙◌, ◌⊎◌, ℕ, List, [], ◌∷◌, map, refl, sym, ap, subst, inl, inr, ⊎_elim, Option, None, Some, Result, Ok, Err}
+use Rattle.std.proofs.Common.{◌≡◌, ◌≢◌, ◌∙◌, ◌⊎◌, ℕ, List, [], ◌∷◌, map, refl, sym, ap, subst, inl, inr, ⊎_elim, Option}
+use Rattle.std.proofs.Common.{None, Some, Result, Ok, Err}
 use Rattle.argue_outside.specs.Outside.{FaultCounted, KnownFile}
 use Rattle.argue_outside.specs.declared.Role.{Role}
-use Rattle.argue_words.specs.Words.{AfTexts, BenchTexts, CheckTexts, IsBenchQuery, IsLiveQuery, IsNamesQuery, IsSolveQuery}
-use Rattle.argue_words.specs.Words.{LiveTexts, NamesTexts, Request, SolveTexts, version, problems, solving, checking}
-use Rattle.argue_words.specs.Words.{ExportTexts, living, benching, by_name, numbering, verifying, exporting, unknown}
-use Rattle.argue_words.specs.Words.{requested}
-use Rattle.argue_words.proofs.RequestLaws.{export_requested_by}
-use Rattle.argue_words.proofs.RequestLaws.{input_requested, names_requested_by, query_requested, script_requested}
+use Rattle.argue_words.specs.Words.{AfTexts, BenchTexts, CheckTexts, IsBenchQuery, IsLiveQuery, IsNamesQuery}
+use Rattle.argue_words.specs.Words.{IsSolveQuery, LiveTexts, NamesTexts, Request, SolveTexts, version, problems}
+use Rattle.argue_words.specs.Words.{solving, checking, ExportTexts, living, benching, by_name, numbering, verifying}
+use Rattle.argue_words.specs.Words.{exporting, unknown, requested}
+use Rattle.argue_words.proofs.RequestLaws.{export_requested_by, input_requested, names_requested_by, query_requested}
+use Rattle.argue_words.proofs.RequestLaws.{script_requested}
 use Rattle.apx_tgf.specs.declared.format.NameFormat.{NameFormat}
 use Rattle.lrat_commands.specs.Exporting.{cnf_name, exported_files, exporting_by, lrat_name}
 use Rattle.lrat_commands.specs.declared.exporting.Exporting.{Exporting}
@@ -16,10 +17,9 @@ use Rattle.named_commands.specs.declared.naming.Naming.{Naming}
 use Rattle.argue_commands.specs.Inputs.{Reading}
 use Rattle.argue_commands.specs.Replacing.{FileText, certificate_files, file_text, RefusesFile}
 use Rattle.argue_commands.proofs.ReplacingLemmas.{HaveOtherNames}
-use Rattle.argue_program.specs.Rows.{EndsCommand, IsEndingFor, IsEndingOf, af_row, bench_row, check_row, certificates_files}
-use Rattle.argue_program.specs.Rows.{AreFiles, export_row}
-use Rattle.argue_program.specs.Rows.{live_row, names_row, nothing_kept, reply_files, row_of, script_files}
-use Rattle.argue_program.specs.Rows.{script_kept, session_files, solve_row}
+use Rattle.argue_program.specs.Rows.{EndsCommand, IsEndingFor, IsEndingOf, af_row, bench_row, check_row}
+use Rattle.argue_program.specs.Rows.{certificates_files, AreFiles, export_row, live_row, names_row, nothing_kept}
+use Rattle.argue_program.specs.Rows.{reply_files, row_of, script_files, script_kept, session_files, solve_row}
 use Rattle.iccma_tasks.specs.Tasks.{Asked}
 use Rattle.argue_program.specs.LargeInputs.{large_by}
 use Rattle.argue_commands.specs.Queries.{asked_by, budget_of, solving_by}
@@ -43,7 +43,8 @@ use Rattle.argue_program.specs.declared.ending.Ending.{Ending}
 use Rattle.argue_program.specs.declared.ended.Ended.{Ended}
 use Rattle.argue_commands.specs.declared.ended.KeptSession.{KeptSession}
 use Rattle.argue_commands.specs.declared.ended.Status.{Status}
-use Rattle.argue_commands.specs.declared.ended.Status.TheVariants.{Done, Usage, InputRefused, ReadFault, WriteFault, WantOfMemory, Unknown, Limit, Rejected}
+use Rattle.argue_commands.specs.declared.ended.Status.TheVariants.{Done, Usage, InputRefused, ReadFault, WriteFault}
+use Rattle.argue_commands.specs.declared.ended.Status.TheVariants.{WantOfMemory, Unknown, Limit, Rejected}
 use Rattle.argue_program.specs.declared.ended.Transcript.{Transcript}
 use Rattle.argue_commands.specs.Texts.{common_text, text_bytes}
 

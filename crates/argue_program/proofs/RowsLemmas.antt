@@ -1,16 +1,16 @@
 -- Endings that a row of the table has.
-use Rattle.std.proofs.Common.{◌≡◌, ◌≢◌, ◌∙◌, ◌⊎◌, ℕ, List, [], ◌∷◌, refl, sym, ap, subst, inl, inr, arith, false, Option, None, Some, Result, Ok, Err, codes, map}
+use Rattle.std.proofs.Common.{◌≡◌, ◌≢◌, ◌∙◌, ◌⊎◌, ℕ, List, [], ◌∷◌, refl, sym, ap, subst, inl, inr, arith, Option, None}
+use Rattle.std.proofs.Common.{Some, Result, Ok, Err, codes, map}
 use Rattle.std.specs.Prelude.{Contains, IfOk, IsTrue}
 use Rattle.std.specs.Option.{unwrap_or}
 use Rattle.lists.specs.declared.memory.Memory.{Memory}
 use Rattle.argue_outside.specs.Outside.{KnownFile, OtherCountsKept}
 use Rattle.argue_outside.specs.declared.Role.{Role}
 use Rattle.argue_outside.specs.declared.Role.TheVariants as role
-use Rattle.argue_words.specs.Words.{ExportTexts}
-use Rattle.argue_words.specs.Words.{AfTexts, CheckTexts, LiveTexts, NamesTexts, Request, SolveTexts, version, problems}
-use Rattle.argue_words.specs.Words.{solving, checking, living, benching, by_name, numbering, verifying, exporting, unknown}
-use Rattle.argue_words.specs.Words.{bench_texts}
-use Rattle.argue_words.specs.Words.{command_named, live_texts, request_of, requested}
+use Rattle.argue_words.specs.Words.{ExportTexts, AfTexts, CheckTexts, LiveTexts, NamesTexts, Request, SolveTexts}
+use Rattle.argue_words.specs.Words.{version, problems, solving, checking, living, benching, by_name, numbering}
+use Rattle.argue_words.specs.Words.{verifying, exporting, unknown, bench_texts, command_named, live_texts, request_of}
+use Rattle.argue_words.specs.Words.{requested}
 use Rattle.argue_words.proofs.RequestLaws.{input_requested, none_requested, script_requested}
 use Rattle.argue_words.proofs.RequestNames.{no_name_in}
 use Rattle.argue_words.specs.declared.words.CommandName.TheVariants as command
@@ -20,10 +20,9 @@ use Rattle.argue_words.specs.declared.words.BenchWords.{BenchWords}
 use Rattle.argue_words.specs.declared.words.LiveWords.{LiveWords}
 use Rattle.argue_commands.specs.Inputs.{EndsReading, Input, Reading, StopsAtFirst, input, named_input}
 use Rattle.argue_commands.proofs.InputLemmas.{follow_none, one_in, no_read_fault}
-use Rattle.argue_program.specs.Rows.{CountsReads, EndsCommand, EndsSession, IsEndingOf, IsTextOf, Row, af_row, bench_row}
-use Rattle.argue_program.specs.Rows.{export_row}
-use Rattle.argue_program.specs.Rows.{check_row, files_beside, live_row, names_row, nothing_kept, row_of, session_files}
-use Rattle.argue_program.specs.Rows.{reply_text, session_text, solve_row, unknown_row}
+use Rattle.argue_program.specs.Rows.{CountsReads, EndsCommand, EndsSession, IsEndingOf, IsTextOf, Row, af_row}
+use Rattle.argue_program.specs.Rows.{bench_row, export_row, check_row, files_beside, live_row, names_row, nothing_kept}
+use Rattle.argue_program.specs.Rows.{row_of, session_files, reply_text, session_text, solve_row, unknown_row}
 use Rattle.apx_tgf.specs.declared.format.NameFormat.{NameFormat}
 use Rattle.lrat_commands.specs.Exporting.{exporting_by}
 use Rattle.lrat_commands.specs.declared.exporting.Exporting.{Exporting}
@@ -47,7 +46,8 @@ use Rattle.argue_commands.specs.Replacing.{file_text}
 use Rattle.argue_commands.specs.Texts.{IsRefusal, common_text, text_bytes}
 use Rattle.argue_program.specs.declared.ending.Ending.{Ending}
 use Rattle.argue_commands.specs.declared.ended.Status.{Status}
-use Rattle.argue_commands.specs.declared.ended.Status.TheVariants.{Done, Usage, InputRefused, ReadFault, WriteFault, WantOfMemory, Unknown, Limit}
+use Rattle.argue_commands.specs.declared.ended.Status.TheVariants.{Done, Usage, InputRefused, ReadFault, WriteFault}
+use Rattle.argue_commands.specs.declared.ended.Status.TheVariants.{WantOfMemory, Unknown, Limit}
 use Rattle.argue_program.specs.declared.ended.Transcript.{Transcript}
 use Rattle.argue_program.proofs.FilesLemmas.{beside_are, none_beside}
 

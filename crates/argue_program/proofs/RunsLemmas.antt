@@ -1,38 +1,37 @@
 -- What follows of a run, in the words of its query.
-use Rattle.std.proofs.Common.{◌≡◌, ◌≢◌, ◌∙◌, ◌⊎◌, ◌<◌, ◌≤◌, ℕ, List, [], length, refl, sym, ap, subst, inl, inr}
-use Rattle.std.proofs.Common.{⊎_elim, true, Option, None, Some, Ok, map}
+use Rattle.std.proofs.Common.{◌≡◌, ◌≢◌, ◌∙◌, ◌⊎◌, ◌<◌, ◌≤◌, ℕ, List, [], length, refl, sym, ap, subst, inl, inr, ⊎_elim}
+use Rattle.std.proofs.Common.{true, Option, None, Some, map}
 use Rattle.std.specs.Io.KnownBytes.{Appends}
 use Rattle.argue_outside.specs.Outside.{FaultCounted}
 use Rattle.argue_outside.specs.declared.Role.{Role}
 use Rattle.argue_outside.specs.declared.Role.TheVariants.{Framework, Script as OfScript, Cnf as OfCnf}
 use Rattle.argue_words.specs.Words.{AfTexts, AreWords, BenchTexts, CheckTexts, IsAfQuery, IsBenchQuery, IsCheckQuery}
-use Rattle.argue_words.specs.Words.{ExportTexts, IsExportQuery}
-use Rattle.argue_words.specs.Words.{IsLiveQuery, IsLratQuery, IsNamesQuery, IsSolveQuery, LiveTexts, LratTexts}
-use Rattle.argue_words.specs.Words.{NamesTexts, Request, SolveTexts, version, problems, unknown, requested}
-use Rattle.argue_words.specs.Words.{words_are_problems}
-use Rattle.argue_words.proofs.RequestLaws.{requested_af, requested_export, requested_input, requested_list, requested_lrat}
-use Rattle.argue_words.proofs.RequestLaws.{requested_names, requested_none, requested_query, requested_script}
-use Rattle.argue_words.proofs.RequestLaws.{requested_texts, requested_unknown}
+use Rattle.argue_words.specs.Words.{ExportTexts, IsExportQuery, IsLiveQuery, IsLratQuery, IsNamesQuery, IsSolveQuery}
+use Rattle.argue_words.specs.Words.{LiveTexts, LratTexts, NamesTexts, Request, SolveTexts, version, problems, unknown}
+use Rattle.argue_words.specs.Words.{requested, words_are_problems}
+use Rattle.argue_words.proofs.RequestLaws.{requested_af, requested_export, requested_input, requested_list}
+use Rattle.argue_words.proofs.RequestLaws.{requested_lrat, requested_names, requested_none, requested_query}
+use Rattle.argue_words.proofs.RequestLaws.{requested_script, requested_texts, requested_unknown}
 use Rattle.apx_tgf.specs.declared.format.NameFormat.{NameFormat}
 use Rattle.named_commands.specs.NamedTexts.{named_reply}
 use Rattle.named_commands.specs.Namings.{format_named, naming_by, solving_of}
 use Rattle.named_commands.specs.Numberings.{IsNumberedOf}
 use Rattle.named_commands.specs.declared.naming.Naming.{Naming}
 use Rattle.lrat_text.specs.CnfText.{Formula}
-use Rattle.lrat_commands.specs.Exporting.{exporting_by}
+use Rattle.lrat_commands.specs.Exporting.{HasNoRefutation, exporting_by}
 use Rattle.lrat_commands.specs.Verifying.{IsUnsatisfiableOf}
 use Rattle.lrat_commands.specs.declared.exporting.Exporting.{Exporting}
 use Rattle.semantics.specs.Framework.{Af}
 use Rattle.semantics.specs.Frameworks.{af, Framework as AnyFramework}
 use Rattle.framework_text.specs.FrameworkText.{IsFaulty}
 use Rattle.argue_commands.specs.Replacing.{FileText, certificate_files, file_text, WritesFiles}
-use Rattle.argue_program.specs.Rows.{AreFiles, EndsCommand, EndsLarge, EndsLive, EndsNamed, EndsSolved, HasNoInput, IsTextOf}
-use Rattle.argue_program.specs.Rows.{Row, SaysNamed, WritesText, export_row, lrat_row, af_row, bench_row, check_row}
-use Rattle.argue_program.specs.Rows.{certificates_files, files_beside, live_row, names_row, reply_files, reply_text}
-use Rattle.argue_program.specs.Rows.{row_of, script_files, script_kept, script_text, session_files, session_text}
-use Rattle.argue_program.specs.Rows.{solve_row}
+use Rattle.argue_program.specs.Rows.{AreFiles, EndsCommand, EndsLarge, EndsLive, EndsNamed, EndsSolved, HasNoInput, Row}
+use Rattle.argue_program.specs.Rows.{SaysNamed, export_row, lrat_row, af_row, bench_row, check_row, certificates_files}
+use Rattle.argue_program.specs.Rows.{files_beside, live_row, names_row, row_of, script_files, script_kept, script_text}
+use Rattle.argue_program.specs.Rows.{session_files, session_text, solve_row}
 use Rattle.iccma_tasks.specs.Tasks.{Asked}
 use Rattle.argue_program.specs.LargeInputs.{large_by}
+use Rattle.argue_commands.specs.Checks.{CheckEnds}
 use Rattle.argue_commands.specs.Queries.{asked_by, budget_of, solving_by}
 use Rattle.argue_commands.specs.Opening.{live_inputs}
 use Rattle.argue_program.specs.Scripts.{transcript_bytes}
@@ -42,7 +41,6 @@ use Rattle.script_text.specs.declared.script.Script.{Script}
 use Rattle.argue_commands.specs.Solves.{status_of}
 use Rattle.argue_program.specs.declared.large.LargeInput.{LargeInput}
 use Rattle.argue_commands.specs.declared.query.Solving.{Solving}
-use Rattle.bench_runs.specs.oracle_core.specs.declared.reply.Answered.{Answered}
 use Rattle.argue_commands.proofs.SolveLemmas.{done_reply}
 use Rattle.argue_commands.proofs.CheckLemmas.{stops_told}
 use Rattle.iccma_tasks.specs.WrittenText.{text_of as answer_text}
@@ -54,16 +52,15 @@ use Rattle.argue_program.specs.Runs.{AnswersRight, AsksSession, AsksTranscript, 
 use Rattle.argue_program.specs.Runs.{IsDoneOrMemory, IsFaultyScript, IsLiveEnd, IsRunOf, IsSolveEnd, LivesContents}
 use Rattle.argue_program.specs.Runs.{NamesCertificate, QueriesBytes, RefusesBytes, RefusesLength, RefusesWords}
 use Rattle.argue_program.specs.Runs.{ScriptsBytes, SolvesContents, SpendsBudget, WritesAnswer, CnfBytes, IsFaultyCnf}
-use Rattle.argue_program.specs.Runs.{ExportContents, IsExportEnd, WritesExported}
-use Rattle.argue_program.specs.Runs.{IsLratEnd, LratContents, WritesSummary, WritesTranscript, IsFaultyNamed}
-use Rattle.argue_program.specs.Runs.{IsNamesEnd, NamedBytes, NamesContents, NumbersContents, RefusesNamed}
-use Rattle.argue_program.specs.Runs.{WritesNamed, WritesNumbered}
+use Rattle.argue_program.specs.Runs.{ExportContents, IsExportEnd, RefusesNumber, WritesExported, IsLratEnd}
+use Rattle.argue_program.specs.Runs.{LratContents, WritesSummary, WritesTranscript, IsFaultyNamed, IsNamesEnd}
+use Rattle.argue_program.specs.Runs.{NamedBytes, NamesContents, NumbersContents, RefusesNamed, WritesNamed}
+use Rattle.argue_program.specs.Runs.{WritesNumbered}
 use Rattle.argue_commands.specs.Texts.{common_text, text_bytes}
 use Rattle.argue_program.specs.declared.ended.Ended.{Ended}
 use Rattle.argue_commands.specs.declared.ended.KeptSession.{KeptSession}
 use Rattle.argue_commands.specs.declared.ended.Status.{Status}
-use Rattle.argue_commands.specs.declared.ended.Status.TheVariants.{Done, Usage, InputRefused, ReadFault, WriteFault}
-use Rattle.argue_commands.specs.declared.ended.Status.TheVariants.{WantOfMemory, Unknown, Limit, Rejected}
+use Rattle.argue_commands.specs.declared.ended.Status.TheVariants.{Done, InputRefused, WriteFault, Unknown, Limit}
 use Rattle.argue_commands.specs.declared.ended.Refusal.TheVariants.{UnknownName}
 use Rattle.argue_program.specs.declared.ended.Transcript.{Transcript}
 use Rattle.num_text.specs.declared.limit.TheConstants.{MAX_INPUT}
@@ -72,9 +69,9 @@ use Rattle.argue_program.proofs.EndsLemmas.{ends_live, ends_large, ends_living, 
 use Rattle.argue_program.proofs.EndsLemmas.{large_done, problems_done, refuses_bytes, refuses_length}
 use Rattle.argue_program.proofs.EndsLemmas.{refuses_long_script, refuses_script, refuses_words, version_done}
 use Rattle.argue_commands.proofs.ReplacingLemmas.{HaveOtherNames, written_other, broken_other}
-use Rattle.argue_program.proofs.ExportLemmas.{ends_export, export_writes}
-use Rattle.argue_program.proofs.FilesLemmas.{are_beside, no_files, said_done, script_files_is, session_files_is}
-use Rattle.argue_program.proofs.FilesLemmas.{session_text_is}
+use Rattle.argue_program.proofs.ExportLemmas.{ends_export, export_writes, refuses_number}
+use Rattle.argue_program.proofs.FilesLemmas.{HasTexts, are_beside, no_files, said_done, script_files_is}
+use Rattle.argue_program.proofs.FilesLemmas.{session_files_is, session_text_is}
 use Rattle.argue_program.proofs.KeptLemmas.{ending_other, kept_at, output_fault, script_at, some_is, write_fault_or}
 use Rattle.argue_program.proofs.LratLemmas.{done_unsatisfiable, ends_lrat, refuses_cnf, refuses_long_cnf}
 use Rattle.argue_program.proofs.NamesLemmas.{EndsAsking, EndsInFormat, af_is_done, asking_in, ends_asking, ends_names}
@@ -256,10 +253,7 @@ module _ (words : List (List ℕ)) (seen : Seen) (ended : Ended) (run : IsRunOf 
       let keeps : run.ending.kept.session ≡ Some solved.session =
       ap (λ (k : Transcript). k.session) (sym run.kept ∙ solved.keeps) in
       let told = done_reply solved.on.framework query solved.session solved.on.is (sym done ∙ solved.ends) in
-      let Says : Row → Type 0 = λ row.
-      WritesText row run.ending.kept run.ending.status (text_bytes run.ending.text)
-      × AreFiles (common_text run.ending.status)
-      (row.Writes run.ending.kept run.ending.status (text_bytes run.ending.text)) (map file_text run.ending.files) in
+      let Says : Row → Type 0 = HasTexts run.ending in
       let P : Request → Type 0 = λ r. Says (row_of seen.files.holds r) in
       let Q : Option Solving → Type 0 = λ o. Says (solve_row seen.files.holds o texts) in
       let says = subst Q query_is
@@ -369,10 +363,7 @@ module _ (words : List (List ℕ)) (seen : Seen) (ended : Ended) (run : IsRunOf 
       let both = run.whole whole in
       let status : run.ending.status ≡ Done = sym both.0 ∙ done in
       let keeps : run.ending.kept ≡ script_kept lives.transcript = sym run.kept ∙ lives.keeps in
-      let Says : Row → Type 0 = λ row.
-      WritesText row run.ending.kept run.ending.status (text_bytes run.ending.text)
-      × AreFiles (common_text run.ending.status)
-      (row.Writes run.ending.kept run.ending.status (text_bytes run.ending.text)) (map file_text run.ending.files) in
+      let Says : Row → Type 0 = HasTexts run.ending in
       let P : Request → Type 0 = λ r. Says (row_of seen.files.holds r) in
       let Q : Option ℕ → Type 0 = λ o. Says (live_row seen.files.holds o texts) in
       let says = subst Q budget_is
@@ -443,10 +434,7 @@ module _ (words : List (List ℕ)) (seen : Seen) (ended : Ended) (run : IsRunOf 
   written_large texts large asks large_is done runs =
       let both = run.whole (λ e. let x : Done ≡ WriteFault = sym done ∙ e in cc) in
       let status : run.ending.status ≡ Done = sym both.0 ∙ done in
-      let Says : Row → Type 0 = λ row.
-      WritesText row run.ending.kept run.ending.status (text_bytes run.ending.text)
-      × AreFiles (common_text run.ending.status)
-      (row.Writes run.ending.kept run.ending.status (text_bytes run.ending.text)) (map file_text run.ending.files) in
+      let Says : Row → Type 0 = HasTexts run.ending in
       let P : Request → Type 0 = λ r. Says (row_of seen.files.holds r) in
       let Q : Option LargeInput → Type 0 = λ o. Says (bench_row o) in
       let says = subst Q large_is
@@ -519,10 +507,7 @@ module _ (words : List (List ℕ)) (seen : Seen) (ended : Ended) (run : IsRunOf 
   written_named texts naming asks naming_is done named =
       let both = run.whole (λ e. let x : Done ≡ WriteFault = sym done ∙ e in cc) in
       let status : run.ending.status ≡ Done = sym both.0 ∙ done in
-      let Says : Row → Type 0 = λ row.
-      WritesText row run.ending.kept run.ending.status (text_bytes run.ending.text)
-      × AreFiles (common_text run.ending.status)
-      (row.Writes run.ending.kept run.ending.status (text_bytes run.ending.text)) (map file_text run.ending.files) in
+      let Says : Row → Type 0 = HasTexts run.ending in
       let P : Request → Type 0 = λ r. Says (row_of seen.files.holds r) in
       let Q : Option Naming → Type 0 = λ o. Says (names_row seen.files.holds o texts) in
       let says = subst Q naming_is
@@ -612,10 +597,7 @@ module _ (words : List (List ℕ)) (seen : Seen) (ended : Ended) (run : IsRunOf 
   written_numbered texts format asks format_is done =
       let both = run.whole (λ e. let x : Done ≡ WriteFault = sym done ∙ e in cc) in
       let status : run.ending.status ≡ Done = sym both.0 ∙ done in
-      let Says : Row → Type 0 = λ row.
-      WritesText row run.ending.kept run.ending.status (text_bytes run.ending.text)
-      × AreFiles (common_text run.ending.status)
-      (row.Writes run.ending.kept run.ending.status (text_bytes run.ending.text)) (map file_text run.ending.files) in
+      let Says : Row → Type 0 = HasTexts run.ending in
       let P : Request → Type 0 = λ r. Says (row_of seen.files.holds r) in
       let Q : Option NameFormat → Type 0 = λ o. Says (af_row seen.files.holds o texts) in
       let says = subst Q format_is (subst P (requested_af words texts asks) (run.decided.text, run.decided.files)) in
@@ -749,6 +731,15 @@ module _ (words : List (List ℕ)) (seen : Seen) (ended : Ended) (run : IsRunOf 
       (λ whole. ends_export seen.files words texts wanted f answer certificate contents ended.kept ended.status
       (at_export texts (Some wanted) contents.query contents.asks whole)) (write_fault_or ended.status)
 
+  -- a number of which an accepted certificate has no refutation is refused
+  no_refutation : (texts : ExportTexts) (wanted : Exporting) (f : AnyFramework) (answer : Answer)
+      (certificate : Certificate) → ExportContents seen.files words texts wanted f answer certificate
+      → CheckEnds f wanted.query answer certificate Done → HasNoRefutation certificate wanted.number
+      → RefusesNumber wanted.number ended.status
+  no_refutation texts wanted f answer certificate contents accepts none =
+      refuses_number f wanted answer certificate ended.status accepts none
+      (complete_export texts wanted f answer certificate contents)
+
   -- words that ask for no refutation are refused
   no_export : (texts : ExportTexts) → IsExportQuery words texts → exporting_by texts ≡ None
       → RefusesWords ended.status
@@ -796,6 +787,7 @@ module _ (words : List (List ℕ)) (seen : Seen) (ended : Ended) (run : IsRunOf 
     long_cnf = long_formula;
     exported = export_written;
     complete_export = complete_export;
+    no_refutation = no_refutation;
     no_export = no_export;
     write_fault = write_fault;
     output_fault = output_fails;

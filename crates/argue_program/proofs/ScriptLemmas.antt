@@ -1,5 +1,6 @@
 -- What a script's run ends with.
-use Rattle.std.proofs.Common.{◌≡◌, ◌≢◌, ◌∙◌, ◌⊎◌, ℕ, arith, List, [], refl, sym, ap, subst, inl, inr, Option, None, Some, Result, Ok, Err}
+use Rattle.std.proofs.Common.{◌≡◌, ◌≢◌, ◌∙◌, ◌⊎◌, ℕ, arith, List, [], refl, sym, ap, subst, inl, inr, Option, None}
+use Rattle.std.proofs.Common.{Some, Result, Ok, Err}
 use Rattle.std.specs.Prelude.{IfOk}
 use Rattle.argue_outside.specs.declared.Role.{Role}
 use Rattle.argue_outside.specs.declared.Role.TheVariants as role
@@ -11,7 +12,8 @@ use Rattle.lists.specs.declared.memory.Memory.{Memory}
 use Rattle.bench_runs.specs.Transcripts.{IsTranscriptOf}
 use Rattle.bench_runs.specs.declared.transcript.ScriptTranscript.{ScriptTranscript}
 use Rattle.argue_commands.specs.Inputs.{Reading, StopsReading, input}
-use Rattle.argue_program.specs.Rows.{EndsCommand, EndsScript, EndsServed, IsEndingOf, CountsReads, files_beside, live_row, nothing_kept, script_files, script_text, unknown_row}
+use Rattle.argue_program.specs.Rows.{EndsCommand, EndsScript, EndsServed, IsEndingOf, CountsReads, files_beside}
+use Rattle.argue_program.specs.Rows.{live_row, nothing_kept, script_files, script_text, unknown_row}
 use Rattle.argue_commands.specs.Opening.{OpensFiles, live_inputs}
 use Rattle.argue_commands.specs.Texts.{IsRefusal, common_text, text_bytes}
 use Rattle.argue_program.specs.declared.ending.Ending.{Ending}

@@ -14,8 +14,8 @@ use Rattle.lrat_commands.specs.Verifying.{LratEnds}
 use Rattle.lrat_commands.specs.declared.exporting.Exporting.{Exporting}
 use Rattle.semantics.specs.Frameworks.{Framework as AnyFramework}
 use Rattle.argue_commands.specs.Inputs.{Input, Reading, StopsAt, StopsAtFirst}
-use Rattle.argue_program.specs.Rows.{EndsCommand, af_row, bench_row, check_row, live_row, names_row, row_of}
-use Rattle.argue_program.specs.Rows.{export_row, solve_row}
+use Rattle.argue_program.specs.Rows.{EndsCommand, af_row, bench_row, check_row, live_row, names_row, row_of, export_row}
+use Rattle.argue_program.specs.Rows.{solve_row}
 use Rattle.iccma_tasks.specs.Tasks.{Asked}
 use Rattle.argue_program.specs.LargeInputs.{large_by}
 use Rattle.argue_commands.specs.Queries.{asked_by, budget_of, solving_by}

@@ -6,14 +6,12 @@ use Rattle.argue_outside.specs.declared.Role.TheVariants as role
 use Rattle.semantics.specs.Framework.{Af}
 use Rattle.semantics.specs.Frameworks.{Framework}
 use Rattle.num_text.specs.declared.limit.TheConstants.{MAX_INPUT}
-use Rattle.argue_words.specs.Words.{ExportTexts, IsExportQuery}
-use Rattle.argue_words.specs.Words.{AfTexts, AreWords, BenchTexts, CheckTexts, IsAfQuery, IsBenchQuery, IsCheckQuery}
-use Rattle.argue_words.specs.Words.{IsLiveQuery, IsLratQuery, IsNamesQuery, IsSolveQuery, LiveTexts, LratTexts}
-use Rattle.argue_words.specs.Words.{NamesTexts, SolveTexts}
-use Rattle.argue_words.specs.Words.{requested, words_are_problems}
+use Rattle.argue_words.specs.Words.{ExportTexts, IsExportQuery, AfTexts, AreWords, BenchTexts, CheckTexts, IsAfQuery}
+use Rattle.argue_words.specs.Words.{IsBenchQuery, IsCheckQuery, IsLiveQuery, IsLratQuery, IsNamesQuery, IsSolveQuery}
+use Rattle.argue_words.specs.Words.{LiveTexts, LratTexts, NamesTexts, SolveTexts, requested, words_are_problems}
 use Rattle.apx_tgf.specs.declared.format.NameFormat.{NameFormat}
 use Rattle.lrat_text.specs.CnfText.{Formula}
-use Rattle.lrat_commands.specs.Exporting.{exporting_by}
+use Rattle.lrat_commands.specs.Exporting.{HasNoRefutation, exporting_by}
 use Rattle.lrat_commands.specs.Verifying.{IsUnsatisfiableOf}
 use Rattle.lrat_commands.specs.declared.exporting.Exporting.{Exporting}
 use Rattle.named_commands.specs.Namings.{format_named, naming_by}
@@ -24,6 +22,7 @@ use Rattle.certificate_claims.specs.declared.certificate.Certificate.{Certificat
 use Rattle.framework_text.specs.FrameworkText.{IsFaulty}
 use Rattle.script_text.specs.declared.script.Script.{Script}
 use Rattle.bench_runs.specs.declared.transcript.ScriptTranscript.{ScriptTranscript}
+use Rattle.argue_commands.specs.Checks.{CheckEnds}
 use Rattle.argue_commands.specs.Queries.{asked_by, budget_of, solving_by}
 use Rattle.argue_commands.specs.declared.ended.KeptSession.{KeptSession}
 use Rattle.argue_commands.specs.declared.ended.Limit.TheVariants as limit
@@ -31,15 +30,13 @@ use Rattle.argue_commands.specs.declared.ended.Status.TheVariants.{Done, WriteFa
 use Rattle.argue_commands.specs.declared.query.Solving.{Solving}
 use Rattle.argue_program.specs.LargeInputs.{large_by}
 use Rattle.argue_program.specs.Rows.{HasNoInput, row_of}
-use Rattle.argue_program.specs.Runs.{AnswersRight, AsksSession, AsksTranscript, ChecksContents, FillsLog}
-use Rattle.argue_program.specs.Runs.{IsFaultyNamed, IsNamesEnd, NamedBytes, NamesContents, NumbersContents}
-use Rattle.argue_program.specs.Runs.{RefusesNamed, WritesNamed, WritesNumbered}
-use Rattle.argue_program.specs.Runs.{CnfBytes, IsFaultyCnf, IsLratEnd, LratContents}
-use Rattle.argue_program.specs.Runs.{ExportContents, IsExportEnd, WritesExported}
-use Rattle.argue_program.specs.Runs.{IsCheckEnd, IsDoneOrMemory, IsFaultyScript, IsLiveEnd, IsSolveEnd}
-use Rattle.argue_program.specs.Runs.{LivesContents, NamesCertificate, QueriesBytes, RefusesBytes, RefusesLength}
-use Rattle.argue_program.specs.Runs.{RefusesWords, ScriptsBytes, SolvesContents, SpendsBudget, WritesAnswer}
-use Rattle.argue_program.specs.Runs.{WritesSummary, WritesTranscript}
+use Rattle.argue_program.specs.Runs.{AnswersRight, AsksSession, AsksTranscript, ChecksContents, FillsLog, IsFaultyNamed}
+use Rattle.argue_program.specs.Runs.{IsNamesEnd, NamedBytes, NamesContents, NumbersContents, RefusesNamed, WritesNamed}
+use Rattle.argue_program.specs.Runs.{WritesNumbered, CnfBytes, IsFaultyCnf, IsLratEnd, LratContents, ExportContents}
+use Rattle.argue_program.specs.Runs.{IsExportEnd, RefusesNumber, WritesExported, IsCheckEnd, IsDoneOrMemory}
+use Rattle.argue_program.specs.Runs.{IsFaultyScript, IsLiveEnd, IsSolveEnd, LivesContents, NamesCertificate}
+use Rattle.argue_program.specs.Runs.{QueriesBytes, RefusesBytes, RefusesLength, RefusesWords, ScriptsBytes}
+use Rattle.argue_program.specs.Runs.{SolvesContents, SpendsBudget, WritesAnswer, WritesSummary, WritesTranscript}
 use Rattle.argue_program.specs.Seen.{Seen}
 use Rattle.argue_program.specs.declared.ended.Ended.{Ended}
 use Rattle.argue_program.specs.declared.large.LargeInput.{LargeInput}
@@ -164,6 +161,11 @@ pub record Promises (words : List (List ℕ)) (seen : Seen) (ended : Ended) : Ty
   pub complete_export : (texts : ExportTexts) (wanted : Exporting) (f : Framework) (answer : Answer)
       (certificate : Certificate) → ExportContents seen.files words texts wanted f answer certificate
       → IsExportEnd f wanted answer certificate ended.status
+  -- one of a number of which an accepted certificate has no refutation is refused for it
+  pub no_refutation : (texts : ExportTexts) (wanted : Exporting) (f : Framework) (answer : Answer)
+      (certificate : Certificate) → ExportContents seen.files words texts wanted f answer certificate
+      → CheckEnds f wanted.query answer certificate Done → HasNoRefutation certificate wanted.number
+      → RefusesNumber wanted.number ended.status
   -- one that asks for no refutation is refused
   pub no_export : (texts : ExportTexts) → IsExportQuery words texts → exporting_by texts ≡ None
       → RefusesWords ended.status

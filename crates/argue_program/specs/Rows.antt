@@ -1,5 +1,6 @@
 -- The table of commands: what each reads, how it may end, and what it then writes.
-use Rattle.std.specs.Prelude.{◌≡◌, ◌≢◌, Contains, ℕ, ◌⊎◌, Bool, true, false, List, [], ◌∷◌, Option, None, Some, Result, Ok, Err, IsTrue, codes, map}
+use Rattle.std.specs.Prelude.{◌≡◌, ◌≢◌, Contains, ℕ, ◌⊎◌, Bool, true, false, List, [], ◌∷◌, Option, None, Some, Result}
+use Rattle.std.specs.Prelude.{Ok, Err, IsTrue, codes, map}
 use Rattle.std.specs.Option.{unwrap_or}
 use Rattle.argue_outside.specs.Outside.{KnownFile}
 use Rattle.iccma_tasks.specs.WrittenText.{text_of as answer_text}
@@ -8,9 +9,8 @@ use Rattle.bench_runs.specs.oracle_core.specs.declared.reply.Answered.{Answered}
 use Rattle.argue_outside.specs.declared.Role.{Role}
 use Rattle.argue_outside.specs.declared.Role.TheVariants.{Framework}
 use Rattle.argue_words.specs.Words.{AfTexts, CheckTexts, ExportTexts, LiveTexts, LratTexts, NamesTexts, Request}
-use Rattle.argue_words.specs.Words.{SolveTexts}
-use Rattle.argue_words.specs.Words.{version, problems, solving, checking, living, benching, by_name, numbering}
-use Rattle.argue_words.specs.Words.{verifying, exporting, unknown}
+use Rattle.argue_words.specs.Words.{SolveTexts, version, problems, solving, checking, living, benching, by_name}
+use Rattle.argue_words.specs.Words.{numbering, verifying, exporting, unknown}
 use Rattle.iccma_tasks.specs.Tasks.{Asked, tasks_line}
 use Rattle.argue_commands.specs.Checks.{ChecksFiles, check_inputs}
 use Rattle.argue_program.specs.LargeInputs.{large_by}

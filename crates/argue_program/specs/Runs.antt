@@ -1,5 +1,6 @@
 -- What a run does, and what follows of it in the words of its query.
-use Rattle.std.specs.Prelude.{◌≡◌, ◌≢◌, ℕ, ◌⊎◌, ◌<◌, ◌≤◌, true, List, length, map, take, slice_index_or, Ok, Some, Option}
+use Rattle.std.specs.Prelude.{◌≡◌, ◌≢◌, ℕ, ◌⊎◌, ◌<◌, ◌≤◌, true, List, length, map, take, slice_index_or, Ok, Some}
+use Rattle.std.specs.Prelude.{Option}
 use Rattle.std.specs.Io.KnownBytes.{Appends}
 use Rattle.argue_outside.specs.Outside.{FaultCounted, KnownFile}
 use Rattle.argue_outside.specs.declared.Role.{Role}
@@ -8,9 +9,8 @@ use Rattle.semantics.specs.Framework.{Af}
 use Rattle.semantics.specs.Frameworks.{Framework, af}
 use Rattle.num_text.specs.declared.limit.TheConstants.{MAX_INPUT}
 use Rattle.argue_words.specs.Words.{AfTexts, BenchTexts, CheckTexts, IsAfQuery, IsBenchQuery, IsCheckQuery, IsLiveQuery}
-use Rattle.argue_words.specs.Words.{ExportTexts, IsExportQuery}
-use Rattle.argue_words.specs.Words.{IsLratQuery, IsNamesQuery, IsSolveQuery, LiveTexts, LratTexts, NamesTexts, SolveTexts}
-use Rattle.argue_words.specs.Words.{requested}
+use Rattle.argue_words.specs.Words.{ExportTexts, IsExportQuery, IsLratQuery, IsNamesQuery, IsSolveQuery, LiveTexts}
+use Rattle.argue_words.specs.Words.{LratTexts, NamesTexts, SolveTexts, requested}
 use Rattle.apx_tgf.specs.Faults.{IsFirstFault as IsFirstNameFault}
 use Rattle.apx_tgf.specs.Names.{AreDistinct}
 use Rattle.apx_tgf.specs.NamedText.{ReadsAs as NamedReadsAs}
@@ -18,8 +18,8 @@ use Rattle.apx_tgf.specs.declared.fault.NameCause.{NameCause}
 use Rattle.apx_tgf.specs.declared.format.NameFormat.{NameFormat}
 use Rattle.lrat_text.specs.CnfText.{Formula, IsCnfFault, IsCnfText}
 use Rattle.lrat_text.specs.declared.fault.CnfCause.{CnfCause}
-use Rattle.lrat_commands.specs.Exporting.{ExportEnds, IsExported, cnf_name, exported_files, exported_text}
-use Rattle.lrat_commands.specs.Exporting.{exporting_by, lrat_name}
+use Rattle.lrat_commands.specs.Exporting.{ExportEnds, IsExported, cnf_name, exported_files, exported_text, exporting_by}
+use Rattle.lrat_commands.specs.Exporting.{lrat_name}
 use Rattle.lrat_commands.specs.Verifying.{LratEnds}
 use Rattle.lrat_commands.specs.declared.exporting.Exporting.{Exporting}
 use Rattle.refutation_logs.specs.declared.texts.Exported.{Exported}
@@ -61,7 +61,8 @@ use Rattle.oracle_face.specs.Growing.{IsFurther}
 use Rattle.oracle_face.specs.Logs.{IsNew, is_unit, no_step, units_of, working}
 use Rattle.session_log.specs.Ends.{LoopInHand, MadeFor}
 use Rattle.bench_runs.specs.oracle_core.specs.declared.reply.Answered.{Answered}
-use Rattle.argue_commands.specs.Inputs.{Input, IsFirstFaultAs, IsFirstFaultIn, IsFrameworkOf, Reading, input, named_input}
+use Rattle.argue_commands.specs.Inputs.{Input, IsFirstFaultAs, IsFirstFaultIn, IsFrameworkOf, Reading, input}
+use Rattle.argue_commands.specs.Inputs.{named_input}
 use Rattle.argue_commands.specs.Replacing.{RefusesFile, WritesFiles, certificate_files, file_text}
 use Rattle.argue_program.specs.Rows.{IsEndingFor, certificates_files}
 use Rattle.argue_program.specs.Seen.{Seen}
@@ -70,10 +71,10 @@ use Rattle.argue_program.specs.declared.ending.Ending.{Ending}
 use Rattle.argue_program.specs.declared.ended.Ended.{Ended}
 use Rattle.argue_commands.specs.declared.ended.KeptSession.{KeptSession}
 use Rattle.argue_commands.specs.declared.ended.Limit.TheVariants as limit
-use Rattle.argue_commands.specs.declared.ended.Refusal.TheVariants.{Line}
+use Rattle.argue_commands.specs.declared.ended.Refusal.TheVariants.{Line, NoRefutation}
 use Rattle.argue_commands.specs.declared.ended.Status.{Status}
-use Rattle.argue_commands.specs.declared.ended.Status.TheVariants.{Done, Usage, InputRefused, WriteFault}
-use Rattle.argue_commands.specs.declared.ended.Status.TheVariants.{WantOfMemory, Limit}
+use Rattle.argue_commands.specs.declared.ended.Status.TheVariants.{Done, Usage, InputRefused, WriteFault, WantOfMemory}
+use Rattle.argue_commands.specs.declared.ended.Status.TheVariants.{Limit}
 use Rattle.argue_program.specs.declared.ended.Transcript.{Transcript}
 use Rattle.argue_commands.specs.declared.query.TheConstants.{LOG_LIMIT}
 
@@ -525,3 +526,10 @@ abbrev pub IsExportEnd : Framework → Exporting → Answer → Certificate → 
 IsExportEnd f wanted answer certificate WantOfMemory = Unit {0}
 IsExportEnd f wanted answer certificate WriteFault = Unit {0}
 IsExportEnd f wanted answer certificate end = ExportEnds f wanted.query answer certificate wanted.number end
+
+-- a number of which there is no refutation is refused, but for want of memory or a write fault
+abbrev pub RefusesNumber : ℕ → Status → Type 0
+RefusesNumber number (InputRefused (NoRefutation k)) = k ≡ number
+RefusesNumber number WriteFault = Unit {0}
+RefusesNumber number WantOfMemory = Unit {0}
+RefusesNumber number _ = ⊥

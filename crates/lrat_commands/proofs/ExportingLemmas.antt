@@ -17,7 +17,7 @@ use Rattle.argue_commands.specs.declared.ended.Refusal.TheVariants.{Line, NoRefu
 use Rattle.argue_commands.specs.declared.ended.Status.{Status}
 use Rattle.argue_commands.specs.declared.ended.Status.TheVariants.{Done, Usage, InputRefused, ReadFault, WriteFault}
 use Rattle.argue_commands.specs.declared.ended.Status.TheVariants.{WantOfMemory, Unknown, Limit, Rejected}
-use Rattle.lrat_commands.specs.Exporting.{EndsExporting, ExportEnds, ExportsFiles, IsExported, IsTextFrom}
+use Rattle.lrat_commands.specs.Exporting.{EndsExporting, ExportEnds, IsExported, IsTextFrom}
 use Rattle.lrat_commands.specs.declared.exporting.Exporting.{Exporting}
 
 -- what ends the check before it is done ends the export
