@@ -53,9 +53,7 @@ fn export_read(alloc: Global, read: &Checked, exporting: &Exporting) -> Result<E
     let number = exporting.number as usize;
     let count = read.certificate.refutations.len();
     if number == 0 || number > count {
-        return Err(Status::InputRefused(Refusal::NoRefutation(
-            exporting.number,
-        )));
+        return Err(Status::InputRefused(Refusal::NoRefutation(exporting.number)));
     }
     match export_refutation(
         alloc,
