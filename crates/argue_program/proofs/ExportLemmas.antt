@@ -108,18 +108,24 @@ module _ (found : Reading) (by : Option Exporting) (texts : ExportTexts) (ending
       let writes : WritesExport found.holds wanted texts (text_bytes ending.text) (map file_text ending.files) =
       record { exported = exported; is = exports; text_is = text; files_are = files } in
       subst IsExportEnding (sym is) (record {
-        cause = rw status (rw kept (inr (refl, record {
-          framework = exports.framework;
-          answer = exports.answer;
-          certificate = exports.certificate;
-          of_framework = exports.of_framework;
-          of_answer = exports.of_answer;
-          of_certificate = exports.of_certificate;
-          ends = (exports.accepts, (
-            (let at = exports.text.number_is in omega arith),
-            (let at = exports.text.number_is in let in_range = exports.text.within in omega arith),
-          ));
-        })));
+        cause = rw status (rw kept (inr (
+          refl,
+          record {
+            framework = exports.framework;
+            answer = exports.answer;
+            certificate = exports.certificate;
+            of_framework = exports.of_framework;
+            of_answer = exports.of_answer;
+            of_certificate = exports.of_certificate;
+            ends = (
+              exports.accepts,
+              (
+                (let at = exports.text.number_is in omega arith),
+                (let at = exports.text.number_is in let in_range = exports.text.within in omega arith),
+              ),
+            );
+          },
+        )));
         text = text_done ending.status (row.Says ending.kept ending.status) (text_bytes ending.text) status
             (map file_text ending.files, writes);
         files = files_done ending.status (row.Writes ending.kept ending.status (text_bytes ending.text))
