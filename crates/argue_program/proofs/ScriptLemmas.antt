@@ -17,6 +17,7 @@ use Rattle.argue_program.specs.Rows.{live_row, nothing_kept, script_files, scrip
 use Rattle.argue_commands.specs.Opening.{OpensFiles, live_inputs}
 use Rattle.argue_commands.specs.Texts.{IsRefusal, common_text, text_bytes}
 use Rattle.argue_program.specs.declared.ending.Ending.{Ending}
+use Rattle.argue_program.proofs.FilesLemmas.{beside_are}
 use Rattle.argue_commands.specs.declared.ended.Status.{Status}
 use Rattle.argue_commands.specs.declared.ended.Status.TheVariants.{Usage, ReadFault, WantOfMemory}
 use Rattle.argue_program.specs.declared.ended.Transcript.{Transcript}
