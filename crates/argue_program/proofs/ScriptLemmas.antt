@@ -1,5 +1,5 @@
 -- What a script's run ends with.
-use Rattle.std.proofs.Common.{◌≡◌, ◌≢◌, ◌∙◌, ◌⊎◌, ℕ, arith, List, [], refl, sym, ap, subst, inl, inr, Option, None}
+use Rattle.std.proofs.Common.{◌≡◌, ◌≢◌, ◌∙◌, ◌⊎◌, ℕ, arith, List, [], refl, sym, ap, map, subst, inl, inr, Option, None}
 use Rattle.std.proofs.Common.{Some, Result, Ok, Err}
 use Rattle.std.specs.Prelude.{IfOk}
 use Rattle.argue_outside.specs.declared.Role.{Role}
@@ -12,6 +12,7 @@ use Rattle.lists.specs.declared.memory.Memory.{Memory}
 use Rattle.bench_runs.specs.Transcripts.{IsTranscriptOf}
 use Rattle.bench_runs.specs.declared.transcript.ScriptTranscript.{ScriptTranscript}
 use Rattle.argue_commands.specs.Inputs.{Reading, StopsReading, input}
+use Rattle.argue_commands.specs.Replacing.{file_text}
 use Rattle.argue_program.specs.Rows.{EndsCommand, EndsScript, EndsServed, IsEndingOf, CountsReads, files_beside}
 use Rattle.argue_program.specs.Rows.{live_row, nothing_kept, script_files, script_text, unknown_row}
 use Rattle.argue_commands.specs.Opening.{OpensFiles, live_inputs}
