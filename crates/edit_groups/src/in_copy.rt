@@ -6,8 +6,8 @@ ghost use Rattle.edit_rules.specs.Kinds.{framework_of};
 ghost use Rattle.edit_groups.specs.Taking.{IsGroupFault, IsGroupTaken};
 
 use crate::copies::copy_effects;
-use crate::taking::{Effects, GroupFault};
-use edit_rules::{Edit, EditFault, Effect, Framework, apply};
+use crate::taking::{Effects, GroupFault, fault_at};
+use edit_rules::{Edit, Effect, Framework, apply};
 use lists::Items;
 use std::alloc::Global;
 
@@ -63,7 +63,6 @@ fn apply_at(
 {
     match apply(alloc, framework, &edits[index]) {
         Ok(effect) => Ok(effects.push(effect)?),
-        Err(EditFault::Memory) => Err(GroupFault::Memory),
-        Err(fault) => Err(GroupFault::Edit(index as u64 + 1, fault)),
+        Err(fault) => Err(fault_at(index as u64 + 1, fault)),
     }
 }

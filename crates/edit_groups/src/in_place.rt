@@ -18,7 +18,7 @@ ghost use Rattle.edit_groups.specs.Taking.{IsGroupFault, IsGroupTaken};
 
 use crate::attack_changes::{AttackChanges, has_attack, is_there};
 use crate::pair_lists::{insert_all, remove_all};
-use crate::taking::{Effects, GroupFault};
+use crate::taking::{Effects, GroupFault, fault_at};
 use dung_notions::AfPlain;
 use edit_rules::{Edit, EditFault, Effect, check_ends};
 use lists::{Items, Memory};
@@ -179,8 +179,7 @@ fn take_at(
 {
     match take_edit(plain, &edits[index], changes) {
         Ok(told) => Ok(told),
-        Err(EditFault::Memory) => Err(GroupFault::Memory),
-        Err(fault) => Err(GroupFault::Edit(index as u64 + 1, fault)),
+        Err(fault) => Err(fault_at(index as u64 + 1, fault)),
     }
 }
 

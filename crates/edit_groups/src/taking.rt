@@ -1,8 +1,10 @@
 //! Groups of edits, taken whole or not at all.
 
-ghost use Rattle.std.specs.Prelude.{◌≡◌, IfErr, IfNone, IfOk, IfSome, OnErr};
+ghost use Rattle.std.specs.Prelude.{◌≡◌, List, IfErr, IfNone, IfOk, IfSome, OnErr};
+ghost use Rattle.semantics.specs.Frameworks.{Framework as AFramework};
+ghost use Rattle.edit_rules.specs.declared.edit.Edit.{Edit as AnEdit};
 ghost use Rattle.edit_rules.specs.Kinds.{framework_of};
-ghost use Rattle.edit_groups.specs.Taking.{IsGroupFault, IsGroupTaken};
+ghost use Rattle.edit_groups.specs.Taking.{IsGroupFault, IsGroupTaken, IsRefusedAt};
 
 use crate::in_copy::apply_in_copy;
 use crate::in_place::apply_in_place;
@@ -47,6 +49,16 @@ impl From<AllocError> for GroupFault {
 
     fn from(_error: AllocError) -> GroupFault {
         GroupFault::Memory
+    }
+}
+
+/// Why a framework doesn't take a group whose edit at a place is refused so.
+pub(crate) fn fault_at(place: u64, fault: EditFault) -> GroupFault
+    ensures { (f : AFramework) (edits : List AnEdit) → IsRefusedAt f edits place fault → IsGroupFault f edits result }
+{
+    match fault {
+        EditFault::Memory => GroupFault::Memory,
+        _ => GroupFault::Edit(place, fault),
     }
 }
 

@@ -140,15 +140,16 @@ impl Hub {
         self.commit_edits(rt, alloc, seat, edits.as_slice())
     }
 
-    /// Commits a group of edits at one turn.
-    fn commit_edits<R: Wait>(
+    /// Commits a group of edits at one turn, as [`commit_group`](Hub::commit_group) does, of a list that stays the caller's.
+    pub fn commit_edits<R: Wait>(
         &self,
         rt: &R,
         alloc: Global,
         seat: &mut Seat,
         edits: &[Edit],
     ) -> Result<GroupCommitted, CommitFault>
-        requires { IsSeatAt self.now seat.old }
+        requires seat { IsSeatAt self.now seat.old }
+        requires edits { (0 < length edits.now) × (length edits.now ≤ MAX_GROUP) }
         ensures seat { IsSeatAt self.now seat.new × (number_of seat.new ≡ number_of seat.old) }
         ensures later { turns_of seat.old < turns_of seat.new }
         ensures ok { IfOk result (λ done. IsCommitted (limit_of self.now) (start_of self.now) (number_of seat.old)

@@ -1,3 +1,4 @@
+use Rattle.std.proofs.Common.{inl, inr, ⊎_elim}
 use Rattle.edit_groups.proofs.TakingLemmas.{next_refused, next_taken}
 use Rattle.edit_groups.proofs.in_copy.apply_at.Goals as goal
 

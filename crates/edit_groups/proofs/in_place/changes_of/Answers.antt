@@ -3,10 +3,10 @@ use Rattle.edit_groups.proofs.ChangeLemmas.{none_taken}
 use Rattle.edit_groups.proofs.in_place.changes_of.Goals as goal
 
 pub loop-index-init : goal.loop-index-init
-loop-index-init c = none_taken c.args.plain.now _ c.live-form.ensures.form ?
+loop-index-init c = none_taken c.args.plain.now _ c.live-form.ensures.form c.new-changes.ensures
 
 pub loop-index-preserved : goal.loop-index-preserved
 loop-index-preserved c = ?
 
 pub returns-clause-taken : goal.returns-clause-taken
-returns-clause-taken c = ?
+returns-clause-taken c = rw (take_all c.loop-index.index c.args.edits.now c.loop-index-test.false) at c.loop-index.invariant
