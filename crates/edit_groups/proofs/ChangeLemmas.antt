@@ -184,7 +184,7 @@ next_in f edits index edit old new lt is taken takes =
     let next = next_taken (af f) (af taken.behind) (af step.0) edits index edit (map plain_effect (take index edits))
     (plain_effect edit) lt is (taken_so f (take index edits) old taken) step.2 in
     let whole : map plain_effect (take (index + 1) edits)
-        ≡ map plain_effect (take index edits) ++ plain_effect edit ∷ [] =
+    ≡ map plain_effect (take index edits) ++ plain_effect edit ∷ [] =
     ap (map plain_effect) (one_behind edits index edit lt is) ∙ map-append plain_effect (take index edits) (edit ∷ []) in
     record {
       behind = step.0;

@@ -15,8 +15,8 @@ use Rattle.edit_rules.proofs.GroupLemmas.{both_taken, group_edits, replay_both, 
 use Rattle.edit_groups.specs.Taking.{IsGroupTaken}
 use Rattle.edit_history.specs.declared.entry.Change.{Change}
 use Rattle.edit_history.specs.declared.entry.HistoryEntry.{HistoryEntry}
-use Rattle.edit_history.specs.Entries.{AreDone, IsAdded, edit_count, edits_in, edits_of, effects_in, entries_in, entry_of}
-use Rattle.edit_history.specs.Entries.{framework_after, session_of}
+use Rattle.edit_history.specs.Entries.{AreDone, IsAdded, edit_count, edits_in, edits_of, effects_in, entries_in}
+use Rattle.edit_history.specs.Entries.{entry_of, framework_after, session_of}
 
 -- the edits of the entries of changes are those of their effects
 pub entries_edits : (changes : List Change) → edits_of (entries_in changes) ≡ edits_in (effects_in changes)

@@ -30,8 +30,9 @@ impl Journal {
         })
     }
 
-    /// Adds a group of edits to the history, if there is room and the framework after the history takes it. After `Err`
-    /// the history is as it was. Attacks come or go in place; for every other group the time is linear in the framework.
+    /// Adds a group of edits to the history, if there is room and the framework after the history takes it. After
+    /// `Err` the history is as it was. Attacks come or go in place; for every other group the time is linear in the
+    /// framework.
     pub(crate) fn commit(
         &mut self,
         alloc: Global,

@@ -115,11 +115,11 @@ impl Hub {
         })
     }
 
-    /// Commits a group of edits at one turn, all or none. `HistoryFull` comes exactly where the edits of the history and
-    /// of the group together are more than there may be, `Edit` only where the framework after the whole history and the
-    /// group's edits before it refuses an edit so. After every answer the seat has seen the history as the turn left it;
-    /// after `Err` that is the history as the turn found it. Attacks come or go in place; for every other group the time
-    /// is linear in the framework.
+    /// Commits a group of edits at one turn, all or none. `HistoryFull` comes exactly where the edits of the history
+    /// and of the group together are more than there may be, `Edit` only where the framework after the whole history
+    /// and the group's edits before it refuses an edit so. After every answer the seat has seen the history as the turn
+    /// left it; after `Err` that is the history as the turn found it. Attacks come or go in place; for every other
+    /// group the time is linear in the framework.
     pub fn commit_group<R: Wait>(
         &self,
         rt: &R,
@@ -140,7 +140,7 @@ impl Hub {
         self.commit_edits(rt, alloc, seat, edits.as_slice())
     }
 
-    /// Commits a group of edits at one turn, as [`commit_group`](Hub::commit_group) does, of a list that stays the caller's.
+    /// Commits a group of edits at one turn, as [`commit_group`](Hub::commit_group) does. The list stays the caller's.
     pub fn commit_edits<R: Wait>(
         &self,
         rt: &R,

@@ -111,7 +111,7 @@ group_at f n changes d done within =
     let behind : AreDone g (c ∷ drop (suc n) changes) =
     subst (AreDone g) (drop-cons changes n d within) (done_from f n changes done) in
     let all : edits_in (effects_in (c ∷ drop (suc n) changes))
-        ≡ edits_in c.effects ++ edits_in (effects_in (drop (suc n) changes)) =
+    ≡ edits_in c.effects ++ edits_in (effects_in (drop (suc n) changes)) =
     map-append (λ (e : Effect). e.edit) c.effects (effects_in (drop (suc n) changes)) in
     taken_first g c.effects (effects_in (drop (suc n) changes)) (edits_in (effects_in (drop (suc n) changes)))
     (ap (group_told g) (sym all) ∙ behind)

@@ -362,8 +362,8 @@ needed_event core end s name a b h is = record {
 -- axioms that come one after the other are a run of the core
 pub needed_reach : (core : Core) (s followed : ℕ) (names : List AxiomName) (a b : OracleLog) → IsReached core s a
     → IsNumbered core.opening → (core.sessions s).seen ≡ length core.history
-    → AddsNeededAfter (framework_after core.opening (take followed core.history)) (edits_of (drop followed core.history))
-    names a b → IsReached core s b
+    → AddsNeededAfter (framework_after core.opening (take followed core.history))
+    (edits_of (drop followed core.history)) names a b → IsReached core s b
 needed_reach core s followed [] a b r numbered seen adds = subst (IsReached core s) (sym adds) r
 needed_reach core s followed (name ∷ names) a b r numbered seen adds =
     let is = needed_step core s followed name a adds.0 numbered seen adds.1 in

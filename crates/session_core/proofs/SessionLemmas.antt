@@ -61,8 +61,8 @@ caught_up f old new fresh is longer tells follows caught count =
           ∙ (ap (framework_after (framework_after f (take old.followed list))) tells.entries
           ∙ after_parts f old.followed list));
       catches_up = subst (λ g. CatchesUp g (edits_of (drop old.followed list)) old.engine.log new.engine.log) at
-          (subst (λ entries. CatchesUp old.engine.framework (edits_of entries) old.engine.log new.engine.log) tells.entries
-          caught);
+          (subst (λ entries. CatchesUp old.engine.framework (edits_of entries) old.engine.log new.engine.log)
+          tells.entries caught);
     }
 
 -- ---- what is read off a log

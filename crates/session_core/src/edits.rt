@@ -20,7 +20,8 @@ use std::sync::Wait;
 impl Session {
     /// Commits an edit at one turn. The reply is `Done` where the edit was taken, `EditRefused` with the place 0 where
     /// the framework after the whole history refuses it, and `Full` exactly where the history has as many edits as it
-    /// may have; its front is the history's length behind the turn. After `Memory` the session answers nothing any more.
+    /// may have; its front is the history's length behind the turn. After `Memory` the session answers nothing any
+    /// more.
     pub fn edit<R: Wait>(
         &mut self,
         rt: &R,
@@ -32,8 +33,8 @@ impl Session {
         ensures seat { IsSeatAt hub.now self.new.seat × (number_of self.new.seat ≡ number_of self.old.seat) }
         ensures later { self.old.out_of_memory ≡ false → turns_of self.old.seat < turns_of self.new.seat }
         ensures longer { IsPrefix (seen_by self.old) (seen_by self.new) }
-        ensures ok { IfOk result (IsEditReply false (limit_of hub.now) (start_of hub.now) (number_of self.old.seat) (edit ∷ [])
-            (seen_by self.old) (seen_by self.new)) }
+        ensures ok { IfOk result (IsEditReply false (limit_of hub.now) (start_of hub.now) (number_of self.old.seat)
+            (edit ∷ []) (seen_by self.old) (seen_by self.new)) }
         ensures room { self.old.out_of_memory ≡ false
             → OnErr result (edit_count (seen_by self.new) + 1 ≤ limit_of hub.now) }
         ensures number { self.new.number ≡ self.old.number }
@@ -97,8 +98,8 @@ impl Session {
         ensures seat { IsSeatAt hub.now self.new.seat × (number_of self.new.seat ≡ number_of self.old.seat) }
         ensures later { self.old.out_of_memory ≡ false → turns_of self.old.seat < turns_of self.new.seat }
         ensures longer { IsPrefix (seen_by self.old) (seen_by self.new) }
-        ensures ok { IfOk result (IsEditReply grouped (limit_of hub.now) (start_of hub.now) (number_of self.old.seat) edits.now
-            (seen_by self.old) (seen_by self.new)) }
+        ensures ok { IfOk result (IsEditReply grouped (limit_of hub.now) (start_of hub.now) (number_of self.old.seat)
+            edits.now (seen_by self.old) (seen_by self.new)) }
         ensures room { self.old.out_of_memory ≡ false
             → OnErr result (edit_count (seen_by self.new) + length edits.now ≤ limit_of hub.now) }
         ensures number { self.new.number ≡ self.old.number }

@@ -28,8 +28,8 @@ pub struct Reply {
 pub enum Body {
     /// The group of edits is taken, and did this, edit by edit.
     Done(Items<Effect>),
-    /// The framework refuses an edit: its place in the group, counted from 1, or 0 for an edit that is written without a
-    /// group; and why.
+    /// The framework refuses an edit: its place in the group, counted from 1, or 0 for an edit that is written without
+    /// a group; and why.
     EditRefused(u64, EditFault),
     /// The group isn't taken, since the history would have more edits than it may have.
     Full,

@@ -25,6 +25,6 @@ returns-clause-ok g c =
     fresh c.requires.followed c.in_ok-entries.ensures.gained.longer c.in_ok-entries.ensures.ok
     (subst (λ (changes : List Change). engine.framework ≡ framework_after old.engine.framework (entries_in changes)) is
     c.in_ok-follow.ensures.framework)
-    (subst (λ (changes : List Change). CatchesUp old.engine.framework (edits_of (entries_in changes)) old.engine.log engine.log) is
-    c.in_ok-follow.ensures.catches_up)
+    (subst (λ (changes : List Change). CatchesUp old.engine.framework (edits_of (entries_in changes)) old.engine.log
+    engine.log) is c.in_ok-follow.ensures.catches_up)
     refl
