@@ -28,7 +28,8 @@ use Rattle.edit_rules.proofs.RowForms.{with_attack_form, without_attack_form}
 use Rattle.edit_rules.proofs.RowOutcomes.{done_behind, refused_behind}
 use Rattle.edit_rules.proofs.SameFrameworks.{same_framework}
 use Rattle.edit_groups.specs.declared.attack_changes.AttackChanges.{AttackChanges}
-use Rattle.edit_groups.specs.Changes.{AreTakenIn, IsChanged, IsNoted, IsTakenIn, comes, goes, is_same, there_in, told_of}
+use Rattle.edit_groups.specs.Changes.{AreTakenIn, IsChanged, IsNoted, IsTakenIn, comes, goes, is_same, there_in}
+use Rattle.edit_groups.specs.Changes.{told_of}
 use Rattle.edit_groups.specs.Gaining.{HasGained, HasLost}
 use Rattle.edit_groups.specs.Taking.{IsGroupTaken}
 use Rattle.edit_groups.proofs.TakingLemmas.{next_refused, next_taken, one_behind}
@@ -62,11 +63,15 @@ test_is false ps p iff = sym (is_false (has_pair ps p) (λ t. false≢true (iff.
 -- the tests of the ends are those of each framework with the same live arguments
 told_for : (f g : Af) (b a : ℕ) → g.live ≡ f.live → AreTold {X = Unit} (end_refusals f b a) (Ok tt)
     → AreTold {X = Unit} (end_refusals g b a) (Ok tt)
-told_for f g b a live told = subst (λ xs. AreTold {X = Unit} (end_refusals (record { live = xs; attacks = g.attacks }) b a) (Ok tt)) (sym live) told
+told_for f g b a live told =
+    subst (λ xs. AreTold {X = Unit} (end_refusals (record { live = xs; attacks = g.attacks }) b a) (Ok tt)) (sym live)
+    told
 
 refusal_for : (f g : Af) (b a : ℕ) (fault : EditFault) → g.live ≡ f.live
     → AreTold {X = Unit} (end_refusals f b a) (Err fault) → AreTold {X = Unit} (end_refusals g b a) (Err fault)
-refusal_for f g b a fault live told = subst (λ xs. AreTold {X = Unit} (end_refusals (record { live = xs; attacks = g.attacks }) b a) (Err fault)) (sym live) told
+refusal_for f g b a fault live told =
+    subst (λ xs. AreTold {X = Unit} (end_refusals (record { live = xs; attacks = g.attacks }) b a) (Err fault))
+    (sym live) told
 
 -- a framework that changed, and one attack of it
 changed_more : (f g h : Af) (old new : AttackChanges) (p : ℕ × ℕ) (there : Bool) → IsChanged f old g
@@ -118,7 +123,8 @@ removal_taken f b a old new told there noted = record {
     changed_more f g (af_without_attack g b a) old new (b, a) false changed noted
         (without_attack_form g b a changed.form) refl
         (is_false (has_pair (without_pair (b, a) g.attacks) (b, a)) (λ t.
-        ((without_pair_members (b, a) g.attacks (b, a)).0 (pair_there (without_pair (b, a) g.attacks) (b, a) t)).1 refl))
+        ((without_pair_members (b, a) g.attacks (b, a)).0
+        (pair_there (without_pair (b, a) g.attacks) (b, a) t)).1 refl))
         (λ q other. tested_alike (without_pair (b, a) g.attacks) g.attacks q
         (λ c. ((without_pair_members (b, a) g.attacks q).0 c).0)
         (λ c. (without_pair_members (b, a) g.attacks q).1 (c, other))),
@@ -185,7 +191,8 @@ next_in f edits index edit old new lt is taken takes =
     (plain_effect edit) lt is (taken_so f (take index edits) old taken) step.2 in
     let whole : map plain_effect (take (index + 1) edits)
     ≡ map plain_effect (take index edits) ++ plain_effect edit ∷ [] =
-    ap (map plain_effect) (one_behind edits index edit lt is) ∙ map-append plain_effect (take index edits) (edit ∷ []) in
+    ap (map plain_effect) (one_behind edits index edit lt is)
+    ∙ map-append plain_effect (take index edits) (edit ∷ []) in
     record {
       behind = step.0;
       changed = step.1;

@@ -1,5 +1,6 @@
 -- Attacks that come or go together.
-use Rattle.std.proofs.Common.{◌≡◌, ◌∙◌, ℕ, ◌+◌, ◌<◌, List, [], ◌∷◌, ◌++◌, length, take, drop, get_or, refl, sym, ap, subst}
+use Rattle.std.proofs.Common.{◌≡◌, ◌∙◌, ℕ, ◌+◌, ◌<◌, List, [], ◌∷◌, ◌++◌, length, take, drop, get_or, refl, sym}
+use Rattle.std.proofs.Common.{ap, subst}
 use Rattle.std.proofs.Common.{inl, inr, ⊎_elim}
 use Rattle.std.specs.Prelude.{◌⊎◌, ◌↔◌, ◌≢◌, Contains}
 use Rattle.std.proofs.lemmas.List.{take-append-drop, take_more}
@@ -99,5 +100,6 @@ pub ends_live : (pairs : List (ℕ × ℕ)) (i : ℕ) (f g : Af) → i < length 
 ends_live pairs i f g lt gained live =
     let p = get_or pairs i (0, 0) in
     let ends = live p (subst (λ xs. Contains xs p) (take-append-drop (i + 1) pairs)
-    (Contains-append_left (take (i + 1) pairs) (drop (i + 1) pairs) p ((next_pair pairs i p p lt refl).1 (inr refl)))) in
+    (Contains-append_left (take (i + 1) pairs) (drop (i + 1) pairs) p
+    ((next_pair pairs i p p lt refl).1 (inr refl)))) in
     (subst (λ xs. Contains xs p.0) (sym gained.live) ends.0, subst (λ xs. Contains xs p.1) (sym gained.live) ends.1)

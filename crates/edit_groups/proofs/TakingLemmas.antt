@@ -1,6 +1,8 @@
 -- Groups that are taken edit by edit.
-use Rattle.std.proofs.Common.{arith, ◌≡◌, ◌∙◌, ℕ, ◌+◌, ◌<◌, suc, List, [], ◌∷◌, ◌++◌, length, take, drop, get_or, sym, ap}
-use Rattle.std.proofs.Common.{Ok, Err}
+use Rattle.std.proofs.Common.{arith, ◌≡◌, ◌∙◌, ℕ, ◌+◌, ◌<◌, suc, List, [], ◌∷◌, ◌++◌, length, take, drop, get_or}
+use Rattle.std.proofs.Common.{sym, ap, subst, Result, Ok, Err}
+use Rattle.std.specs.Result.{IsErr, IsErrAnd}
+use Rattle.std.proofs.lemmas.Bool.{false≢true}
 use Rattle.std.proofs.lemmas.List.{length-take-le, take-append-drop, take_more}
 use Rattle.std.proofs.Math.Seq.{drop-cons}
 use Rattle.semantics.specs.Frameworks.{Framework}
@@ -11,6 +13,7 @@ use Rattle.edit_rules.specs.Edits.{edit_outcome}
 use Rattle.edit_rules.specs.Groups.{group_told}
 use Rattle.edit_rules.specs.Replay.{replay}
 use Rattle.edit_rules.proofs.GroupLemmas.{one_more, refused_at}
+use Rattle.edit_groups.specs.declared.taking.GroupFault.{GroupFault}
 use Rattle.edit_groups.specs.Taking.{IsGroupTaken}
 
 -- the edits up to one of them, it, and those behind it
@@ -50,3 +53,9 @@ next_refused f g edits index edit effects fault lt is taken outcome =
     ∙ refused_at f (take index edits) edit (drop (suc index) edits) effects fault taken.told
     (ap (λ x. edit_outcome x edit) (sym taken.behind) ∙ outcome)
     ∙ ap (λ n. Err (n + 1, fault)) long
+
+-- what a fault that is handed on says
+pub fault_handed_on : {X : Type 0} (P : Result X GroupFault → Type 0) (r : Result X GroupFault) (fault : GroupFault)
+    → IsErr r × IsErrAnd r (λ x. x ≡ fault) → P (Err fault) → P r
+fault_handed_on P (Ok x) fault is holds = absurd (false≢true is.0)
+fault_handed_on P (Err x) fault is holds = subst (λ y. P (Err y)) (sym is.1) holds

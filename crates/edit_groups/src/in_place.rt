@@ -24,8 +24,8 @@ use edit_rules::{Edit, EditFault, Effect, check_ends};
 use lists::{Items, Memory};
 use std::alloc::Global;
 
-/// Changes an abstract framework in place by a group of edits, or leaves it as it was. `None` says that one of the edits
-/// makes no attack come or go.
+/// Changes an abstract framework in place by a group of edits, or leaves it as it was. `None` says that one of the
+/// edits makes no attack come or go.
 pub(crate) fn apply_in_place(
     alloc: Global,
     plain: &mut AfPlain,
@@ -164,8 +164,8 @@ fn changes_of(
     Ok(Some(changes))
 }
 
-/// Notes the change of the edit at an index, behind those of the edits before it. It answers false for an edit that makes
-/// no attack come or go.
+/// Notes the change of the edit at an index, behind those of the edits before it. It answers false for an edit that
+/// makes no attack come or go.
 fn take_at(
     plain: &AfPlain,
     edits: &[Edit],

@@ -72,8 +72,8 @@ pub struct Effects {
     pub told: Items<Effect>,
 }
 
-/// Changes a framework by a group of edits, one by one, or leaves it as it was: where an edit is refused by the framework
-/// behind those before it, and where memory is refused. Attacks that come or go in an abstract framework do so in
+/// Changes a framework by a group of edits, one by one, or leaves it as it was: where an edit is refused by the
+/// framework behind those before it, and where memory is refused. Attacks that come or go in an abstract framework do so in
 /// place, in time linear in the group beside what each takes; every other group is made in a copy of the framework.
 pub fn apply_group(
     alloc: Global,
@@ -92,8 +92,8 @@ pub fn apply_group(
     }
 }
 
-/// Changes an abstract framework in place, where all edits make attacks come or go. `None` says that they don't, or that
-/// the framework is of the other kind; it is as before then.
+/// Changes an abstract framework in place, where all edits make attacks come or go. `None` says that they don't, or
+/// that the framework is of the other kind; it is as before then.
 fn try_in_place(
     alloc: Global,
     framework: &mut Framework,
