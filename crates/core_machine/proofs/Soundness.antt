@@ -270,7 +270,7 @@ answered_good core s n good =
 
 step_good : (core new : Core) (event : Event) → IsGood core → IsStep core event new → IsGood new
 step_good core new (commit s edits) good is =
-    subst IsGood (sym is) (turned_good core s (committed core s edits) good (commit_taken core s edits good))
+    subst IsGood (sym is.1) (turned_good core s (committed core s edits) good (commit_taken core s edits good))
 step_good core new (refresh s) good is =
     subst IsGood (sym is) (turned_good core s [] good
     (subst (λ entries. AreTaken core.opening (edits_of entries)) (sym (append-nil core.history)) good.taken))
@@ -287,7 +287,7 @@ step_good core new (answer s asked most budget pending ending) good is =
 
 step_history : (core new : Core) (event : Event) → IsStep core event new
     → (new.opening ≡ core.opening) × (new.history ≡ core.history ++ taken_by core event)
-step_history core new (commit s edits) is = (ap (λ (c : Core). c.opening) is, ap (λ (c : Core). c.history) is)
+step_history core new (commit s edits) is = (ap (λ (c : Core). c.opening) is.1, ap (λ (c : Core). c.history) is.1)
 step_history core new (refresh s) is = (ap (λ (c : Core). c.opening) is, ap (λ (c : Core). c.history) is)
 step_history core new (learn s clause source closing) is =
     (ap (λ (c : Core). c.opening) is.2, ap (λ (c : Core). c.history) is.2 ∙ sym (append-nil core.history))
@@ -320,7 +320,7 @@ turned_seen core n entries good =
 step_seen : (core new : Core) (event : Event) → IsGood core → IsStep core event new → (s : ℕ)
     → (core.sessions s).seen ≤ (new.sessions s).seen
 step_seen core new (commit n edits) good is s =
-    seen_in core _ new s is (turned_seen core n (committed core n edits) good s)
+    seen_in core _ new s is.1 (turned_seen core n (committed core n edits) good s)
 step_seen core new (refresh n) good is s = seen_in core _ new s is (turned_seen core n [] good s)
 step_seen core new (learn n clause source closing) good is s =
     seen_in core _ new s is.2 (seen_put core n (record (core.sessions n) { log = is.0 }) (omega arith) s)

@@ -15,7 +15,7 @@ use Rattle.edit_rules.specs.declared.effect.EditFault.{EditFault}
 use Rattle.edit_rules.specs.Groups.{group_told}
 use Rattle.edit_rules.specs.Replay.{replay}
 use Rattle.edit_history.specs.declared.entry.HistoryEntry.{HistoryEntry}
-use Rattle.edit_history.specs.Entries.{edit_count, edits_of, framework_after}
+use Rattle.edit_history.specs.Entries.{IsGroup, edit_count, edits_of, framework_after}
 use Rattle.oracle_face.specs.declared.entry.Entry.{Entry as PoolEntry}
 use Rattle.oracle_face.specs.declared.entry.EntryOrigin.{EntryOrigin}
 use Rattle.oracle_face.specs.declared.entry.EntryOrigin.TheVariants.{Axiom as OfAxiom, Hints}
@@ -167,7 +167,7 @@ pub record Answers (core : Core) (s : ℕ) (asked : Asked) (most budget : ℕ) (
 -- ---- steps and runs
 
 abbrev pub IsStep : Core → Event → Core → Type 0
-IsStep core (commit s edits) new = new ≡ after_turn core s (committed core s edits)
+IsStep core (commit s edits) new = IsGroup edits × (new ≡ after_turn core s (committed core s edits))
 IsStep core (refresh s) new = new ≡ after_turn core s []
 IsStep core (learn s clause source closing) new =
     (log : OracleLog) × LearnsTo core s clause source closing log × (new ≡ with_log core s log)

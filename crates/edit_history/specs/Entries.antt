@@ -3,6 +3,7 @@ use Rattle.std.specs.Prelude.{◌≡◌, ℕ, ◌+◌, ◌<◌, ◌≤◌, List,
 use Rattle.std.specs.List.{flat_map}
 use Rattle.semantics.specs.Frameworks.{Framework}
 use Rattle.edit_rules.specs.declared.edit.Edit.{Edit}
+use Rattle.edit_rules.specs.declared.edit.TheConstants.{MAX_GROUP}
 use Rattle.edit_rules.specs.declared.effect.Effect.{Effect}
 use Rattle.edit_rules.specs.Groups.{group_told}
 use Rattle.edit_rules.specs.Replay.{replay}
@@ -10,6 +11,10 @@ use Rattle.edit_history.specs.declared.entry.HistoryEntry.{HistoryEntry}
 use Rattle.edit_history.specs.declared.entry.Change.{Change}
 use Rattle.edit_history.specs.declared.fault.CommitFault.{CommitFault}
 use Rattle.edit_history.specs.declared.fault.CommitFault.TheVariants.{HistoryFull, Edit as Refused, Memory}
+
+-- the edits can be a group: there is one, and there aren't too many
+abbrev pub IsGroup : List Edit → Type 0
+IsGroup edits = (0 < length edits) × (length edits ≤ MAX_GROUP)
 
 -- the session whose entry it is
 abbrev pub session_of : HistoryEntry → ℕ

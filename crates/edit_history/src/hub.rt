@@ -3,8 +3,7 @@
 ghost use Rattle.std.specs.Prelude.{◌≡◌, ◌≤◌, ◌<◌, ◌∷◌, [], length, IfOk, IfErr, OnErr};
 ghost use Rattle.edit_rules.specs.Kinds.{framework_of};
 ghost use Rattle.turn_lock.specs.Seats.{list_of, number_of, turns_of};
-ghost use Rattle.edit_rules.specs.declared.edit.TheConstants.{MAX_GROUP};
-ghost use Rattle.edit_history.specs.Entries.{FaultSays};
+ghost use Rattle.edit_history.specs.Entries.{FaultSays, IsGroup};
 ghost use Rattle.edit_history.specs.Hubs.{AreNewSeats, AreSeatsOf, IsSeatAt, limit_of, sessions_of, start_of};
 ghost use Rattle.edit_history.specs.Hubs.{EndsWith, GainsOthers, IsCommitted, IsFresh};
 
@@ -128,7 +127,7 @@ impl Hub {
         edits: Items<Edit>,
     ) -> Result<GroupCommitted, CommitFault>
         requires seat { IsSeatAt self.now seat.old }
-        requires edits { (0 < length edits) × (length edits ≤ MAX_GROUP) }
+        requires edits { IsGroup edits }
         ensures seat { IsSeatAt self.now seat.new × (number_of seat.new ≡ number_of seat.old) }
         ensures later { turns_of seat.old < turns_of seat.new }
         ensures ok { IfOk result (λ done. IsCommitted (limit_of self.now) (start_of self.now) (number_of seat.old) edits
@@ -149,7 +148,7 @@ impl Hub {
         edits: &[Edit],
     ) -> Result<GroupCommitted, CommitFault>
         requires seat { IsSeatAt self.now seat.old }
-        requires edits { (0 < length edits.now) × (length edits.now ≤ MAX_GROUP) }
+        requires edits { IsGroup edits.now }
         ensures seat { IsSeatAt self.now seat.new × (number_of seat.new ≡ number_of seat.old) }
         ensures later { turns_of seat.old < turns_of seat.new }
         ensures ok { IfOk result (λ done. IsCommitted (limit_of self.now) (start_of self.now) (number_of seat.old)

@@ -11,7 +11,7 @@ use Rattle.edit_rules.specs.declared.effect.Effect.{Effect}
 use Rattle.edit_rules.specs.declared.effect.EditFault.{EditFault}
 use Rattle.edit_rules.specs.Groups.{group_told}
 use Rattle.edit_history.specs.declared.entry.HistoryEntry.{HistoryEntry}
-use Rattle.edit_history.specs.Entries.{edit_count, framework_after}
+use Rattle.edit_history.specs.Entries.{IsGroup, edit_count, framework_after}
 use Rattle.core_machine.specs.Core.{Core}
 use Rattle.core_machine.specs.Steps.{Runs, after_turn, commit, committed, entry_taken, goes, rests}
 use Rattle.session_replies.specs.declared.reply.Body.{Body}
@@ -69,18 +69,19 @@ added_is grouped core s edits before now (Unknown count) says is = absurd says
 added_is grouped core s edits before now TooMany says is = absurd says
 added_is grouped core s edits before now LogFull says is = absurd says
 
-turn_run : (core : Core) (s : ℕ) (edits : List Edit) (added : List HistoryEntry) → committed core s edits ≡ added
+turn_run : (core : Core) (s : ℕ) (edits : List Edit) (added : List HistoryEntry) → IsGroup edits
+    → committed core s edits ≡ added
     → Runs core (commit s edits ∷ []) added (after_turn core s added)
-turn_run core s edits added is =
+turn_run core s edits added group is =
     subst (λ entries. Runs core (commit s edits ∷ []) entries (after_turn core s entries)) is
     (subst (λ entries. Runs core (commit s edits ∷ []) entries (after_turn core s (committed core s edits)))
     (append-nil (committed core s edits))
     (goes core (after_turn core s (committed core s edits)) (after_turn core s (committed core s edits))
-    (commit s edits) [] [] refl (rests (after_turn core s (committed core s edits)))))
+    (commit s edits) [] [] (group, refl) (rests (after_turn core s (committed core s edits)))))
 
 pub edits_run : EditsAreRuns
-edits_run grouped f limit s edits before now reply core is opening limited found =
-    turn_run core s edits (added_by s edits reply.body)
+edits_run grouped f limit s edits before now reply core group is opening limited found =
+    turn_run core s edits (added_by s edits reply.body) group
     (added_is grouped core s edits before now reply.body
     (subst (λ n. EditSays grouped n core.opening s edits before now reply.body) (sym limited)
     (subst (λ g. EditSays grouped limit g s edits before now reply.body) (sym opening) is.says)) found)

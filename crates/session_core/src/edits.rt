@@ -3,8 +3,7 @@
 ghost use Rattle.std.specs.Prelude.{◌≡◌, ◌<◌, ◌≤◌, ◌+◌, ◌∷◌, [], length, true, false, IfOk, IsErr, OnErr, OnOk};
 ghost use mathlib.Core.List.{IsPrefix};
 ghost use Rattle.turn_lock.specs.Seats.{number_of, turns_of};
-ghost use Rattle.edit_rules.specs.declared.edit.TheConstants.{MAX_GROUP};
-ghost use Rattle.edit_history.specs.Entries.{edit_count};
+ghost use Rattle.edit_history.specs.Entries.{IsGroup, edit_count};
 ghost use Rattle.edit_history.specs.Hubs.{IsSeatAt, limit_of, start_of};
 ghost use Rattle.session_core.specs.Replies.{IsEditReply, place_told};
 ghost use Rattle.session_core.specs.Sessions.{Follows, seen_by};
@@ -63,7 +62,7 @@ impl Session {
         edits: Items<Edit>,
     ) -> Result<Reply, Memory>
         requires seat { IsSeatAt hub.now self.old.seat }
-        requires edits { (0 < length edits) × (length edits ≤ MAX_GROUP) }
+        requires edits { IsGroup edits }
         ensures seat { IsSeatAt hub.now self.new.seat × (number_of self.new.seat ≡ number_of self.old.seat) }
         ensures later { self.old.out_of_memory ≡ false → turns_of self.old.seat < turns_of self.new.seat }
         ensures longer { IsPrefix (seen_by self.old) (seen_by self.new) }
@@ -94,7 +93,7 @@ impl Session {
         grouped: bool,
     ) -> Result<Reply, Memory>
         requires seat { IsSeatAt hub.now self.old.seat }
-        requires edits { (0 < length edits.now) × (length edits.now ≤ MAX_GROUP) }
+        requires edits { IsGroup edits.now }
         ensures seat { IsSeatAt hub.now self.new.seat × (number_of self.new.seat ≡ number_of self.old.seat) }
         ensures later { self.old.out_of_memory ≡ false → turns_of self.old.seat < turns_of self.new.seat }
         ensures longer { IsPrefix (seen_by self.old) (seen_by self.new) }

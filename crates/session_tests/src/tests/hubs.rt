@@ -27,8 +27,9 @@ type Ending = Result<u64, CommitFault>;
 fn is_refused_so(fault: CommitFault, wanted: Ending) -> bool {
     match (fault, wanted) {
         (CommitFault::HistoryFull(front), Err(CommitFault::HistoryFull(other))) => front == other,
-        (CommitFault::Edit(fault, front), Err(CommitFault::Edit(other, at))) => fault == other
-            && front == at,
+        (CommitFault::Edit(place, fault, front), Err(CommitFault::Edit(at, other, end))) => place == at
+            && fault == other
+            && front == end,
         _ => false,
     }
 }
@@ -41,10 +42,18 @@ fn ends_so(told: Result<Committed, CommitFault>, wanted: Ending) -> bool {
     }
 }
 
+/// Whether the change is this edit alone.
+fn is_only(change: &Change, edit: &Edit) -> bool {
+    match change.effects.as_slice() {
+        [effect] => effect.edit == *edit,
+        _ => false,
+    }
+}
+
 /// Whether the changes are one attack that the session dropped.
 fn is_dropped(changes: &[Change], session: u32, edit: &Edit) -> bool {
     match changes {
-        [change] => change.session == session && change.effect.edit == *edit,
+        [change] => change.session == session && is_only(change, edit),
         _ => false,
     }
 }
@@ -110,7 +119,7 @@ fn cross<R: Wait>(rt: &R, alloc: Global, hub: &Hub, one: &mut Seat, two: &mut Se
     let unknown = EditFault::UnknownArgument(3);
     empty.is_ok()
         && ends_so(dropped, Ok(1))
-        && ends_so(refused, Err(CommitFault::Edit(unknown, 1)))
+        && ends_so(refused, Err(CommitFault::Edit(1, unknown, 1)))
         && ends_so(taken, Ok(2))
         && sees_drop(fresh, 2)
 }
@@ -135,7 +144,7 @@ fn came_between(rt: HostRuntime) -> Result<(), Fail> {
     assert!(rt; cross_first(&rt, alloc, &hub, seats.as_mut_slice()));
     let history = hub.close(seats);
     assert!(rt; history.entries.len() == 2);
-    assert!(rt; history.entries[0].effect.dropped.as_slice() == [(2, 3)].as_slice());
+    assert!(rt; history.entries[0].effects.as_slice()[0].dropped.as_slice() == [(2, 3)].as_slice());
     Ok(())
 }
 
@@ -226,7 +235,7 @@ fn entries_of(entries: &[Change], session: u32) -> Option<u32> {
     let mut count = 0u32;
     for change in entries {
         if change.session == session {
-            if change.effect.edit != toggled(session, count) {
+            if !is_only(change, &toggled(session, count)) {
                 return None;
             }
             count = count.saturating_add(1);

@@ -38,7 +38,7 @@ fn certificates(rt: HostRuntime) -> Result<(), Fail> {
 
 #[test]
 fn one_session(rt: HostRuntime) -> Result<(), Fail> {
-    let refused = told(10, Body::EditRefused(EditFault::OutOfRange(0)));
+    let refused = told(10, Body::EditRefused(0, EditFault::OutOfRange(0)));
     let written = session_text(rt.alloc(), 8, &[refused, told(10, Body::TooMany)])?;
     let text = "session 8\nat 10\nREFUSED OutOfRange 0\nat 10\nLIMIT TooMany\n";
     assert!(rt; written.as_slice() == text.as_bytes());
