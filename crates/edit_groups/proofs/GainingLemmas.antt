@@ -8,7 +8,7 @@ use Rattle.std.proofs.lemmas.List.Elements.{Contains-append_left, Contains-push,
 use Rattle.lists.proofs.Membership.{Contains-cons_cases, Contains-head, Contains-nil}
 use Rattle.semantics.specs.Framework.{Af}
 use Rattle.semantics.specs.Frameworks.{IsNumberedAf}
-use Rattle.edit_rules.specs.attack_index.specs.Changes.{LosesPair}
+use Rattle.edit_rules.specs.attack_index.specs.Changes.{GainsPair, LosesPair}
 use Rattle.edit_rules.proofs.SameFrameworks.{same_framework}
 use Rattle.edit_groups.specs.Gaining.{HasGained, HasLost}
 
@@ -53,6 +53,20 @@ gained_none f ok = record {
   form = ok;
   live = refl;
   attacks = λ p. (λ c. inl c, λ h. ⊎_elim (λ c. c) (λ n. absurd (Contains-nil p n)) h);
+}
+
+-- one attack alone
+pub gained_one : (p : ℕ × ℕ) (f g : Af) → g.live ≡ f.live → GainsPair p f.attacks g.attacks → IsNumberedAf g
+    → HasGained (p ∷ []) f g
+gained_one p f g live gains ok = record {
+  form = ok;
+  live = live;
+  attacks = λ q. (
+    λ c. ⊎_elim (λ o. inl o) (λ (e : q ≡ p). inr (Contains-head p [] q (sym e))) ((gains.members q).0 c),
+    λ h. (gains.members q).1 (⊎_elim (λ o. inl o)
+        (λ here. ⊎_elim (λ (e : p ≡ q). inr (sym e)) (λ none. absurd (Contains-nil q none))
+        (Contains-cons_cases p [] q here)) h),
+  );
 }
 
 pub gained_more : (pairs : List (ℕ × ℕ)) (i : ℕ) (p : ℕ × ℕ) (f m n : Af) → i < length pairs

@@ -1,7 +1,7 @@
 -- Groups that are taken edit by edit.
 use Rattle.std.proofs.Common.{arith, ◌≡◌, ◌∙◌, ℕ, ◌+◌, ◌<◌, suc, List, [], ◌∷◌, ◌++◌, length, take, drop, get_or}
 use Rattle.std.proofs.Common.{sym, ap, subst, Result, Ok, Err}
-use Rattle.std.specs.Result.{IsErr, IsErrAnd}
+use Rattle.std.specs.Result.{IsErr, IsErrAnd, OnErr}
 use Rattle.std.proofs.lemmas.Bool.{false≢true}
 use Rattle.std.proofs.lemmas.List.{length-take-le, take-append-drop, take_more}
 use Rattle.std.proofs.Math.Seq.{drop-cons}
@@ -59,3 +59,7 @@ pub fault_handed_on : {X : Type 0} (P : Result X GroupFault → Type 0) (r : Res
     → IsErr r × IsErrAnd r (λ x. x ≡ fault) → P (Err fault) → P r
 fault_handed_on P (Ok x) fault is holds = absurd (false≢true is.0)
 fault_handed_on P (Err x) fault is holds = subst (λ y. P (Err y)) (sym is.1) holds
+
+pub on_err : {X E : Type 0} (r : Result X E) (P : Type 0) → P → OnErr r P
+on_err (Ok x) P holds = tt
+on_err (Err e) P holds = holds
