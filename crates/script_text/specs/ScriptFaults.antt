@@ -11,7 +11,7 @@ use Rattle.iccma_tasks.specs.Tasks.{IsTask, task_name}
 use Rattle.script_text.specs.declared.edit_word.EditWord.{EditWord}
 use Rattle.script_text.specs.declared.fault.ScriptCause.{ScriptCause}
 use Rattle.script_text.specs.declared.fault.ScriptCause.TheVariants.{BadSession, BadCommand, BadTask, BadNumber}
-use Rattle.script_text.specs.declared.fault.ScriptCause.TheVariants.{BadQuery}
+use Rattle.script_text.specs.declared.fault.ScriptCause.TheVariants.{BadQuery, EmptyGroup, GroupTooLong, OpenGroup}
 use Rattle.script_text.specs.declared.fault.ScriptFault.{ScriptFault}
 use Rattle.script_text.specs.declared.fault.ScriptFault.TheVariants.{At, Memory}
 use Rattle.script_text.specs.Changes.{change_name, Takes}
@@ -24,6 +24,9 @@ cause_name BadCommand = codes "BadCommand"
 cause_name BadTask = codes "BadTask"
 cause_name BadNumber = codes "BadNumber"
 cause_name BadQuery = codes "BadQuery"
+cause_name OpenGroup = codes "OpenGroup"
+cause_name GroupTooLong = codes "GroupTooLong"
+cause_name EmptyGroup = codes "EmptyGroup"
 
 -- where several causes stand on one line, the one of the lowest rank is told
 abbrev pub rank : ScriptCause → ℕ
@@ -32,6 +35,9 @@ rank BadCommand = 2
 rank BadTask = 3
 rank BadNumber = 4
 rank BadQuery = 5
+rank OpenGroup = 6
+rank GroupTooLong = 7
+rank EmptyGroup = 8
 
 -- of the causes that stand, this one is told
 pub record IsFirstCause (Stands : ScriptCause → Type 0) (cause : ScriptCause) : Type 0 where
@@ -59,6 +65,14 @@ pub record HaveAskForm (fields : List (List ℕ)) : Type 0 where
   pub arguments : List (List ℕ)
   pub fields_are : fields ≡ codes "ask" ∷ task ∷ arguments
   pub few : length arguments ≤ 1
+
+-- `begin` or `end` alone
+abbrev pub HaveMarkForm : List (List ℕ) → Type 0
+HaveMarkForm fields = (fields ≡ codes "begin" ∷ []) ⊎ (fields ≡ codes "end" ∷ [])
+
+-- a command's name, and as many fields as it takes
+abbrev pub HaveForm : List (List ℕ) → Type 0
+HaveForm fields = HaveChangeForm fields ⊎ (HaveAskForm fields ⊎ HaveMarkForm fields)
 
 -- what is asked is no task's name
 pub record HaveUnknownTask (fields : List (List ℕ)) : Type 0 where
@@ -89,11 +103,14 @@ pub record HaveUnfitTask (fields : List (List ℕ)) : Type 0 where
 -- the cause stands on the fields behind the session's number
 abbrev pub StandsOnCommand : List (List ℕ) → ScriptCause → Type 0
 StandsOnCommand fields BadSession = ⊥
-StandsOnCommand fields BadCommand = ¬ (HaveChangeForm fields ⊎ HaveAskForm fields)
+StandsOnCommand fields BadCommand = ¬ HaveForm fields
 StandsOnCommand fields BadTask = HaveUnknownTask fields
 StandsOnCommand fields BadNumber = ((form : HaveChangeForm fields) × HaveNoNumber form.arguments)
     ⊎ ((form : HaveAskForm fields) × HaveNoNumber form.arguments)
 StandsOnCommand fields BadQuery = HaveUnfitTask fields
+StandsOnCommand fields OpenGroup = ⊥
+StandsOnCommand fields GroupTooLong = ⊥
+StandsOnCommand fields EmptyGroup = ⊥
 
 -- the cause stands on the fields of a line
 abbrev pub StandsOn : List (List ℕ) → ScriptCause → Type 0

@@ -7,9 +7,9 @@ use Rattle.script_text.specs.declared.fault.LineStop.TheVariants.{Wrong, Memory}
 use Rattle.script_text.specs.declared.fault.ScriptCause.{ScriptCause}
 use Rattle.script_text.specs.declared.fault.ScriptFault.{ScriptFault}
 use Rattle.script_text.specs.declared.fault.ScriptFault.TheVariants.{At, Memory as Refused}
-use Rattle.script_text.specs.declared.script.ScriptLine.{ScriptLine}
+use Rattle.script_text.specs.declared.text_line.TextLine.{TextLine}
 use Rattle.script_text.specs.ScriptFaults.{IsFirstCause, StandsOn}
-use Rattle.script_text.specs.ScriptText.{IsScriptLine, SpellsSession}
+use Rattle.script_text.specs.ScriptText.{IsTextLine, SpellsSession}
 
 -- where the line is wrong, its cause is one of which P holds
 abbrev pub IfWrong : LineStop → (ScriptCause → Type 0) → Type 0
@@ -23,10 +23,10 @@ pub record TakesSession (before : List (List ℕ)) (session : ℕ) (after : List
   pub session_is : SpellsSession text session
 
 -- the next line says this, and the others are left
-pub record TellsNext (before after : List LineText) (told : ScriptLine) : Type 0 where
+pub record TellsNext (before after : List LineText) (told : TextLine) : Type 0 where
   pub line : LineText
   pub lines_are : before ≡ line ∷ after
-  pub told_is : IsScriptLine line.text told
+  pub told_is : IsTextLine line.text told
 
 -- the next line has this number, and the cause is told of it
 pub record IsNextFault (lines : List LineText) (number : ℕ) (cause : ScriptCause) : Type 0 where
@@ -46,8 +46,8 @@ pub record IsFirstBadLine (lines : List LineText) (number : ℕ) (cause : Script
   pub before : List LineText
   pub left : List LineText
   pub lines_are : lines ≡ before ++ left
-  pub script : List ScriptLine
-  pub before_are : AllZip (λ text line. IsScriptLine text.text line) before script
+  pub script : List TextLine
+  pub before_are : AllZip (λ text line. IsTextLine text.text line) before script
   pub bad : IsNextFault left number cause
 
 -- where the fault is that of a line, it is that of the first bad one

@@ -14,6 +14,7 @@ mod fault;
 mod read;
 mod script;
 mod script_line;
+mod text_line;
 
 pub use edit_word::EditWord;
 pub use fault::{ScriptCause, ScriptFault};

@@ -5,11 +5,11 @@ ghost use Rattle.std.specs.List.{AllZip};
 ghost use Rattle.num_text.specs.Lines.{kept};
 ghost use Rattle.script_text.specs.declared.script.Script.{Script as ScriptValue};
 ghost use Rattle.script_text.specs.ScriptFaults.{IsFaultless, IsToldOf};
-ghost use Rattle.script_text.specs.ScriptText.{IsScript, IsScriptLine};
+ghost use Rattle.script_text.specs.ScriptText.{IsScript, IsTextLine};
 ghost use Rattle.script_text.specs.Steps.{BreaksAt, StopsAt, TellsNext};
 
 use crate::fault::{LineStop, ScriptFault};
-use crate::script::{Script, ScriptLine};
+use crate::script::{Script, TextLine};
 use crate::script_line::line_of;
 use lists::Items;
 use num_text::{Lines, lines, next_kept};
@@ -31,8 +31,8 @@ pub fn read_script(alloc: Global, bytes: &[u8]) -> Result<Script, ScriptFault>
 }
 
 // All lines that are left and not skipped, in their order.
-fn read_lines(alloc: Global, mut left: Lines<'_>) -> Result<Items<ScriptLine>, ScriptFault>
-    ensures lines { IfOk result (AllZip (λ text line. IsScriptLine text.text line) (kept left.entry)) }
+fn read_lines(alloc: Global, mut left: Lines<'_>) -> Result<Items<TextLine>, ScriptFault>
+    ensures lines { IfOk result (AllZip (λ text line. IsTextLine text.text line) (kept left.entry)) }
     ensures fault { IfErr result (BreaksAt (kept left.entry)) }
 {
     let mut script = Items::new(alloc);
@@ -43,7 +43,7 @@ fn read_lines(alloc: Global, mut left: Lines<'_>) -> Result<Items<ScriptLine>, S
 }
 
 // The next line that is not skipped; `None` where none is left.
-fn next_line(alloc: Global, left: &mut Lines<'_>) -> Result<Option<ScriptLine>, ScriptFault>
+fn next_line(alloc: Global, left: &mut Lines<'_>) -> Result<Option<TextLine>, ScriptFault>
     ensures next { IfOk result (λ next. IfSome next (TellsNext (kept left.old) (kept left.new))) }
     ensures end { IfOk result (λ next. IfNone next (kept left.old ≡ [])) }
     ensures fault { IfErr result (StopsAt (kept left.old)) }

@@ -1,4 +1,4 @@
-use Rattle.std.proofs.Common.{refl, take, IfErr}
+use Rattle.std.proofs.Common.{refl, IfErr}
 use Rattle.std.proofs.lemmas.List.{take_all}
 use Rattle.edit_rules.specs.Kinds.{framework_of}
 use Rattle.edit_groups.specs.Taking.{IsGroupFault}
