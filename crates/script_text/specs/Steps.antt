@@ -1,5 +1,5 @@
 -- How reading goes on from field to field and from line to line.
-use Rattle.std.specs.Prelude.{◌≡◌, ℕ, List, [], ◌∷◌, ◌++◌}
+use Rattle.std.specs.Prelude.{◌≡◌, ℕ, List, [], ◌∷◌, ◌++◌, Option, Some, None, get_or}
 use Rattle.std.specs.List.{AllZip}
 use Rattle.num_text.specs.Cuts.{LineText, field_texts}
 use Rattle.script_text.specs.declared.fault.LineStop.{LineStop}
@@ -8,6 +8,10 @@ use Rattle.script_text.specs.declared.fault.ScriptCause.{ScriptCause}
 use Rattle.script_text.specs.declared.fault.ScriptFault.{ScriptFault}
 use Rattle.script_text.specs.declared.fault.ScriptFault.TheVariants.{At, Memory as Refused}
 use Rattle.script_text.specs.declared.text_line.TextLine.{TextLine}
+use Rattle.edit_rules.specs.declared.edit.Edit.{Edit}
+use Rattle.script_text.specs.declared.groups.OpenGroups.{OpenGroups}
+use Rattle.script_text.specs.declared.script.ScriptLine.{ScriptLine}
+use Rattle.script_text.specs.Groups.{Groups}
 use Rattle.script_text.specs.ScriptFaults.{IsFirstCause, StandsOn}
 use Rattle.script_text.specs.ScriptText.{IsTextLine, SpellsSession}
 
@@ -54,3 +58,17 @@ pub record IsFirstBadLine (lines : List LineText) (number : ℕ) (cause : Script
 abbrev pub BreaksAt : List LineText → ScriptFault → Type 0
 BreaksAt lines (At number cause) = IsFirstBadLine lines number cause
 BreaksAt lines Refused = Unit {0}
+
+-- ---- groups
+
+-- the group at an index, and none where there is no index
+abbrev pub group_at : List (Option (List Edit)) → ℕ → Option (List Edit)
+group_at groups s = get_or groups s None
+
+abbrev pub groups_of : OpenGroups → Groups
+groups_of open_groups s = group_at open_groups.groups.items s
+
+-- the command that is told, as a list
+abbrev pub told_list : Option ScriptLine → List ScriptLine
+told_list None = []
+told_list (Some line) = line ∷ []

@@ -11,6 +11,7 @@ mod ask;
 mod edit_line;
 mod edit_word;
 mod fault;
+mod groups;
 mod read;
 mod script;
 mod script_line;
