@@ -27,8 +27,8 @@ pub(crate) fn line_of(alloc: Global, line: &Line<'_>) -> Result<TextLine, LineSt
     Ok(TextLine { session, command })
 }
 
-// The session that the first field names; the others are left.
-fn session_of(parts: &mut Fields<'_>) -> Result<u32, ScriptCause>
+/// The session that the first field names; the others are left.
+pub(crate) fn session_of(parts: &mut Fields<'_>) -> Result<u32, ScriptCause>
     ensures session { IfOk result (λ session.
         TakesSession (map (λ f. f.text) parts.old) session (map (λ f. f.text) parts.new)) }
     ensures wrong { IfErr result (λ cause.
