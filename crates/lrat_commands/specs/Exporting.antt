@@ -1,7 +1,6 @@
 -- The texts of a refutation of a certificate, and how a run that is to write them may end.
-use Rattle.std.specs.Prelude.{◌≡◌, ◌⊎◌, ◌<◌, ◌≤◌, ℕ, ◌+◌, List, [], ◌∷◌, ◌++◌, codes, length, Option, None, Some}
+use Rattle.std.specs.Prelude.{◌≡◌, ◌⊎◌, ◌<◌, ◌≤◌, ℕ, ◌+◌, List, [], ◌∷◌, ◌++◌, codes, decimal, length, Option, None, Some}
 use Rattle.semantics.specs.Frameworks.{Framework}
-use Rattle.num_text.specs.Number.{decimal}
 use Rattle.argue_outside.specs.Outside.{KnownFile}
 use Rattle.argue_words.specs.Words.{CheckTexts, ExportTexts}
 use Rattle.iccma_tasks.specs.Tasks.{Asked}
