@@ -3,7 +3,5 @@
 
 mod heap;
 mod order;
-mod restarts;
 
 pub use order::DecisionOrder;
-pub use restarts::Luby;

@@ -18,3 +18,4 @@ pub mod BehindLemmas
 pub mod LawLemmas
 pub mod DetermineLemmas
 pub mod EffectLemmas
+pub mod GroupLemmas

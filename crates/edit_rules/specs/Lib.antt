@@ -2,6 +2,7 @@ pub mod Kinds
 pub mod Fitting
 pub mod Edits
 pub mod Replay
+pub mod Groups
 pub mod Applying
 pub mod Laws
 pub mod Refusals

@@ -5,6 +5,9 @@ ghost use Rattle.std.specs.Prelude.{◌≡◌, IfOk};
 use lists::{Items, Memory};
 use std::alloc::Global;
 
+/// The most edits of a group.
+pub const MAX_GROUP: usize = 10_000;
+
 /// A change of a framework. The first four are changes of an abstract framework, the others of an assumption-based one.
 #[derive(PartialEq, Eq)]
 pub enum Edit {

@@ -90,7 +90,7 @@ fn check_live(plain: &AfPlain, argument: u32) -> Result<(), EditFault>
 }
 
 /// Refuses the ends of an attack, which must be live arguments.
-fn check_ends(plain: &AfPlain, attacker: u32, target: u32) -> Result<(), EditFault>
+pub fn check_ends(plain: &AfPlain, attacker: u32, target: u32) -> Result<(), EditFault>
     ensures told { AreTold (end_refusals plain.now attacker target) result }
     ensures live { OnOk result (Contains plain.now.live attacker × Contains plain.now.live target) }
 {

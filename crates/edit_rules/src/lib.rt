@@ -15,8 +15,8 @@ pub mod query_fault;
 
 pub use aba_edit_laws::{aba_edits_keep_form, aba_effects_determine, numbers_are_given_once};
 pub use aba_edits::apply_aba;
-pub use edit::Edit;
-pub use edits::apply;
+pub use edit::{Edit, MAX_GROUP};
+pub use edits::{apply, check_ends};
 pub use effect::{EditFault, Effect};
 pub use framework::Framework;
 pub use makes::copy_aba;

@@ -92,8 +92,8 @@ pub record Closes (old new : SolverState) (number : ℕ) : Type 0 where
   pub active_same : new.active ≡ old.active
   pub pending_same : new.pending ≡ old.pending
 
--- each assumption and each clause in use is true; no literal stands beside its negation, and each literal of a clause in
--- use has a value
+-- each assumption and each clause in use is true; no literal stands beside its negation, and each literal of a clause
+-- in use has a value
 pub record IsModel (s : SolverState) (assumptions lits : List Lit) : Type 0 where
   pub plain : IsTautology negation lits → ⊥
   pub assumed : (l : Lit) → Contains assumptions l → Contains lits l

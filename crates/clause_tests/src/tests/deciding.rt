@@ -1,7 +1,7 @@
-//! Which variable is decided next, and when a search begins anew: contracts say nothing of this advice.
+//! Which variable is decided next: contracts say nothing of this advice.
 
 use crate::tests::named::lit;
-use decision_order::{DecisionOrder, Luby};
+use decision_order::DecisionOrder;
 use lists::Memory;
 use std::alloc::Global;
 use std::test::Fail;
@@ -59,13 +59,4 @@ fn phases(rt: HostRuntime) -> Result<(), Fail> {
     order.reset_phases();
     assert!(rt; order.phase(1) && !order.phase(3));
     Ok(())
-}
-
-#[test]
-fn numbers_of_luby(rt: HostRuntime) {
-    let mut luby = Luby::new();
-    for number in [1, 1, 2, 1, 1, 2, 4, 1, 1, 2, 1, 1, 2, 4, 8, 1] {
-        assert!(rt; luby.number() == number);
-        luby.advance();
-    }
 }
