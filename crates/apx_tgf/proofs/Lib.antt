@@ -6,6 +6,7 @@ pub mod LineLemmas
 pub mod NameLemmas
 pub mod NumberLemmas
 pub mod ReadingLemmas
+pub mod RemarkLemmas
 pub mod SeriesLemmas
 pub mod SizeLemmas
 pub mod TextLemmas

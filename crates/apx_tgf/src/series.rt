@@ -116,13 +116,32 @@ fn begun_by(name: &[u8], total: usize) -> Option<Series<'_>>
     })
 }
 
-// The number of bytes before the digits at the end of a name.
+// The number of bytes before the number at the end of a name. Zeros in front of it belong to them, so that names of one
+// length, as `a098` and `a099`, make series too.
 fn prefix_length(name: &[u8]) -> usize
+    ensures { result ≤ length name.now }
+{
+    let start = digits_start(name);
+    start + zeros_length(&name[start..])
+}
+
+// The index at which the digits at the end of a name begin.
+fn digits_start(name: &[u8]) -> usize
     ensures { result ≤ length name.now }
 {
     match name.iter().rposition(|byte| !byte.is_ascii_digit()) {
         Some(index) => index + 1,
         None => 0,
+    }
+}
+
+// How many zeros stand in front of other digits.
+fn zeros_length(digits: &[u8]) -> usize
+    ensures { result ≤ length digits.now }
+{
+    match digits.iter().position(|byte| *byte != b'0') {
+        Some(index) => index,
+        None => digits.len().saturating_sub(1),
     }
 }
 

@@ -69,9 +69,9 @@ fn token_length(bytes: &[u8]) -> usize
     }
 }
 
-// The number of blanks that the bytes begin with.
+/// The number of blanks that the bytes begin with.
 #[inline(always)]
-fn blanks_length(bytes: &[u8]) -> usize
+pub(crate) fn blanks_length(bytes: &[u8]) -> usize
     ensures index { result ≡ position_or_len (λ byte. not (is_blank byte)) bytes.now }
     ensures within { result ≤ length bytes.now }
 {
