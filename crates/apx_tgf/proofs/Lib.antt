@@ -6,10 +6,11 @@ pub mod LineLemmas
 pub mod NameLemmas
 pub mod NumberLemmas
 pub mod ReadingLemmas
+pub mod RemarkLemmas
+pub mod SeriesLemmas
 pub mod SizeLemmas
 pub mod TextLemmas
 pub mod TgfLemmas
 pub mod ToldLemmas
 pub mod TokenLemmas
-pub mod WordLemmas
 pub mod WrittenLemmas

@@ -1,16 +1,16 @@
 -- How the first token is cut off.
-use Rattle.std.proofs.Common.{◌≡◌, ℕ, suc, ◌+◌, ◌-◌, ◌<◌, ◌≤◌, ◌==◌, Bool, true, false, not, List, [], ◌∷◌, length, take, drop, get_or, refl, sym, ap, subst, ◌∙◌, inl, inr, arith, length-drop, get_or-drop}
+use Rattle.std.proofs.Common.{◌≡◌, ℕ, zero, suc, ◌+◌, ◌-◌, ◌<◌, ◌≤◌, ◌==◌, Bool, true, false, not, List, [], ◌∷◌, length, take, drop, get_or, refl, sym, ap, subst, ◌∙◌, inl, inr, arith, length-drop, get_or-drop}
 use Rattle.std.specs.Prelude.{All, ◌↔◌, IsTrue}
 use Rattle.std.specs.List.{position_or_len}
 use Rattle.std.proofs.lemmas.Bool.{cases_Bool, cond-true, cond-false, not_from_true, not_from_false, and_from, and_left, and_right, or_from, eqb-true, eqb-false, eq-eqb, true≢false}
 use Rattle.std.proofs.lemmas.List.{drop-drop, drop_all}
-use Rattle.std.proofs.lemmas.List.Elements.{All-head, All-tail}
+use Rattle.std.proofs.lemmas.List.Elements.{All-nil, All-cons, All-head, All-tail}
 use Rattle.std.proofs.lemmas.List.Sums.{fails_before_first, passes_at_first}
 use Rattle.lists.proofs.TruthValues.{not_not, is_denied}
 use Rattle.num_text.specs.Cuts.{is_blank}
 use Rattle.num_text.proofs.CutLemmas.{rest_whole}
 use Rattle.apx_tgf.specs.Names.{is_name_byte, IsName}
-use Rattle.apx_tgf.specs.ApxText.{tokens_of, begins_with_name, with_first_byte}
+use Rattle.apx_tgf.specs.ApxText.{tokens_of, begins_with_name, with_first_byte, IsToken}
 
 -- ---- blanks
 
@@ -115,6 +115,43 @@ byte_token (byte ∷ text) some blank name = cond-false _ _ _ blank ∙ cond-fal
 pub name_prefix-first : (text : List ℕ) → 0 < length text → is_name_byte (get_or text 0 0) ≡ true → 0 < name_prefix text
 name_prefix-first [] some name = absurd (omega arith)
 name_prefix-first (byte ∷ text) some name = name_prefix-some (byte ∷ text) name
+
+-- ---- each token is not empty, and a name where its first byte is one of a name
+
+prefix_names : (text : List ℕ) → All (λ byte. is_name_byte byte ≡ true) (take (name_prefix text) text)
+prefix_names [] = All-nil (λ byte. is_name_byte byte ≡ true)
+prefix_names (byte ∷ text) =
+    let P : ℕ → Type 0 = λ byte. is_name_byte byte ≡ true in
+    elim (cases_Bool (is_name_byte byte)) [
+      | inl name ↦ subst (λ m. All P (take m (byte ∷ text))) (sym (name_prefix-more byte text name))
+          (All-cons P byte (take (name_prefix text) text) name (prefix_names text))
+      | inr none ↦ subst (λ m. All P (take m (byte ∷ text))) (sym (name_prefix-none (byte ∷ text) none)) (All-nil P)
+    ]
+
+taken_some : (text : List ℕ) (n : ℕ) → 0 < length text → 0 < n → 0 < length (take n text)
+taken_some [] n some low = absurd (omega arith)
+taken_some (byte ∷ text) zero some low = absurd (omega arith)
+taken_some (byte ∷ text) (suc n) some low = omega arith
+
+pub name_token-form : (text : List ℕ) → 0 < length text → 0 < name_prefix text → IsToken (take (name_prefix text) text)
+name_token-form text some low = record {
+  not_empty = taken_some text (name_prefix text) some low;
+  name = λ _. record { not_empty = taken_some text (name_prefix text) some low; bytes = prefix_names text };
+}
+
+pub byte_token-form : (text : List ℕ) → 0 < length text → is_name_byte (get_or text 0 0) ≡ false
+    → IsToken (take 1 text)
+byte_token-form [] some none = absurd (omega arith)
+byte_token-form (byte ∷ text) some none = record {
+  not_empty = omega arith;
+  name = λ name. absurd (true≢false (sym name ∙ none));
+}
+
+-- a token is a name exactly where its first byte is one of a name
+pub name_by_first : (token : List ℕ) (r : Bool) → IsToken token → r ≡ is_name_byte (get_or token 0 0)
+    → IsTrue r ↔ IsName token
+name_by_first token r is first =
+    (λ name. is.name (sym first ∙ name), λ name. first ∙ name.bytes 0 0 is.not_empty)
 
 -- ---- what `next` needs, where the rest is `&bytes[start..]`
 

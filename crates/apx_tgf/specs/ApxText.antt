@@ -1,5 +1,5 @@
 -- The lines of an APX text: facts `arg(a).` and `att(a,b).`, none or more.
-use Rattle.std.specs.Prelude.{◌≡◌, ℕ, ◌&&◌, Bool, false, if◌then◌else◌, List, [], ◌∷◌, All, map, codes, slice_index}
+use Rattle.std.specs.Prelude.{◌≡◌, ℕ, ◌<◌, ◌&&◌, Bool, true, false, if◌then◌else◌, List, [], ◌∷◌, length, All, map, codes, slice_index}
 use Rattle.std.specs.List.{flat_map}
 use Rattle.num_text.specs.Cuts.{LineText, is_blank, field_texts}
 use Rattle.apx_tgf.specs.Names.{is_name_byte, IsName}
@@ -22,6 +22,11 @@ tokens_of [] = []
 tokens_of (byte ∷ more) = if is_blank byte then tokens_of more else
     if is_name_byte byte && begins_with_name more then with_first_byte byte (tokens_of more) else
     (byte ∷ []) ∷ tokens_of more
+
+-- what each token is: not empty, and a name where its first byte is one of a name
+pub record IsToken (token : List ℕ) : Type 0 where
+  pub not_empty : 0 < length token
+  pub name : is_name_byte (slice_index token 0) ≡ true → IsName token
 
 -- a fact: `arg(a).` or `att(a,b).`
 pub data Fact : Type 0 where

@@ -5,9 +5,9 @@ pub mod NamedText
 pub mod Names
 pub mod Numbered
 pub mod Reading
+pub mod Series
 pub mod Taking
 pub mod TgfText
 pub mod Told
 pub mod Views
-pub mod Words
 pub mod Written

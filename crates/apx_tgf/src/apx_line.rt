@@ -10,10 +10,10 @@ ghost use Rattle.apx_tgf.specs.Taking.{TakesApxLine, IsNoApxLine, TakesFact, IsN
 
 use crate::fact::{ReadFact, fact_from};
 use crate::fault::{NameCause, NameFault, ReadFault};
-use crate::token::Tokens;
+use crate::token::{Tokens, blanks_length};
 use crate::told::{NamedAttack, ToldSoFar};
 use lists::Memory;
-use num_text::{Line, fields};
+use num_text::Line;
 
 /// Takes what a line of an APX text says.
 pub(crate) fn take_apx_line<'a>(line: &Line<'a>, told: &mut ToldSoFar<'a>) -> Result<(), ReadFault>
@@ -30,14 +30,15 @@ pub(crate) fn take_apx_line<'a>(line: &Line<'a>, told: &mut ToldSoFar<'a>) -> Re
     Ok(())
 }
 
-// Whether the first field of the line begins with `%`.
+// Whether the first field of the line begins with `%`, which the first byte that is no blank tells.
 fn is_remark(line: &Line<'_>) -> bool
     ensures { IsTrue result ↔ BeginWithPercent (field_texts line.now.text.now) }
 {
-    match fields(line).next() {
-        Some(first) => first.text.starts_with("%".as_bytes()),
-        None => false,
+    let start = blanks_length(line.text);
+    if start == line.text.len() {
+        return false;
     }
+    line.text[start] == b'%'
 }
 
 // Takes the fact that begins with this token.

@@ -5,7 +5,7 @@ ghost use Rattle.apx_tgf.specs.Names.{IsName};
 ghost use Rattle.apx_tgf.specs.Facts.{BeginWithFact, BeginWithNoFact};
 ghost use Rattle.apx_tgf.specs.Views.{fact_of};
 
-use crate::token::{Tokens, is_name};
+use crate::token::{Tokens, is_name_token};
 
 /// A fact as it is read.
 #[derive(Clone, Copy)]
@@ -77,7 +77,7 @@ fn take_name<'a>(tokens: &mut Tokens<'a>) -> Option<&'a [u8]>
     ensures none { IfNone result ((name : List ℕ) → (more : List (List ℕ)) → tokens.old ≡ name ∷ more → ¬ IsName name) }
 {
     let next = tokens.next()?;
-    if !is_name(next) {
+    if !is_name_token(next) {
         return None;
     }
     Some(next)

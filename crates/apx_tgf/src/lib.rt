@@ -20,10 +20,10 @@ mod line;
 mod names;
 mod numbers;
 mod read;
+mod series;
 mod tgf_line;
 mod token;
 mod told;
-mod word;
 mod write;
 
 pub use fault::{NameCause, NameFault, ReadFault};

@@ -3,7 +3,7 @@
 ghost use Rattle.std.specs.Prelude.{◌≡◌, ℕ, ◌≤◌, ◌<◌, [], length, slice_get, Contains, Some, IfSome, IfNone, OnOk, OnErr};
 ghost use Rattle.apx_tgf.specs.Names.{IsNumberOf, with_name};
 
-use crate::word::{short_word, spelled_number};
+use crate::series::Series;
 use indexmap::IndexSet;
 use lists::Memory;
 use std::alloc::Global;
@@ -12,31 +12,29 @@ use std::marker::Model;
 /// Names in the order in which they came, each once: the first has number 1. A name is a part of the text that was
 /// read.
 ///
-/// A look-up guesses first that a short name ends in its number, from 1 or from 0, as names often do. Else it hashes
-/// the name, by a hash that is the same in each run, so that a text can be made on which look-ups take longer.
+/// The number of a name in a series of them is told by its bytes. Any other is hashed, by a hash that is the same in each
+/// run, so that a text can be made on which look-ups take longer.
 pub struct Names<'a> {
     names: IndexSet<&'a [u8]>,
-    // What `short_word` gives of each name.
-    words: Vec<u64>,
+    series: Series<'a>,
 }
 
 // By hand, so that a drop is one call (docs/PROVING.md).
 impl<'a> Drop for Names<'a> {
     fn drop(self) {
-        let Self { names, words } = self;
+        let Self { names, series } = self;
     }
 }
 
 impl<'a> Model for Names<'a> {
     ghost use Rattle.std.specs.Prelude.{List, ℕ, map};
-    ghost use Rattle.std.specs.List.{AllZip};
-    ghost use Rattle.apx_tgf.specs.Words.{HasWord};
+    ghost use Rattle.apx_tgf.specs.Series.{HasSeries};
 
     ghost Value = { List (List ℕ) };
 
     ghost view = { λ n. map (λ name. name.now) n.names.keys };
 
-    ghost invariant = { λ n. AllZip HasWord (map (λ name. name.now) n.names.keys) n.words.items };
+    ghost invariant = { λ n. HasSeries (map (λ name. name.now) n.names.keys) n.series };
 }
 
 impl<'a> Names<'a> {
@@ -46,7 +44,7 @@ impl<'a> Names<'a> {
     {
         Names {
             names: IndexSet::new(alloc),
-            words: Vec::new(alloc),
+            series: Series::new(),
         }
     }
 
@@ -55,9 +53,8 @@ impl<'a> Names<'a> {
         ensures ok { OnOk result (self.new ≡ with_name self.old name.now) }
         ensures err { OnErr result (self.new ≡ self.old) }
     {
-        self.words.reserve(1)?;
         if self.names.insert(name)? {
-            self.words.push_reserved(short_word(name));
+            self.series = self.series.with_last(name, self.names.len());
         }
         Ok(())
     }
@@ -75,31 +72,22 @@ impl<'a> Names<'a> {
         ensures within { IfSome result (λ number. number ≤ length self.now) }
         ensures none { IfNone result (¬ Contains self.now name.now) }
     {
-        let spelled = spelled_number(name);
-        if let Some(number) = self.guessed(name, spelled) {
-            return Some(number);
-        }
-        if let Some(number) = self.guessed(name, spelled.saturating_add(1)) {
+        if let Some(number) = self.number_in_series(name) {
             return Some(number);
         }
         self.find_number(name)
     }
 
-    // The number that is guessed, if it is the number of this name. Arguments are often named in their order, from 1 or
-    // from 0.
+    // The number of a name of the series.
     #[inline(always)]
-    fn guessed(&self, name: &[u8], number: usize) -> Option<usize>
+    fn number_in_series(&self, name: &[u8]) -> Option<usize>
         ensures some { IfSome result (IsNumberOf self.now name.now) }
         ensures within { IfSome result (λ number. number ≤ length self.now) }
     {
-        if number == 0 || number > self.words.len() {
-            return None;
-        }
-        let word = short_word(name);
-        if word == 0 || self.words[number - 1] != word {
-            return None;
-        }
-        Some(number)
+        let count = self.names.len();
+        let offset = self.series.offset_of(name)?;
+        prove!(self.series.start + offset < count);
+        Some(self.series.start + offset + 1)
     }
 
     // The number of a name, by a look-up.

@@ -4,7 +4,7 @@ ghost use Rattle.std.specs.Prelude.{◌≡◌, ◌↔◌, ◌∷◌, [], ◌≤�
 ghost use Rattle.std.specs.List.{position, position_or_len};
 ghost use Rattle.num_text.specs.Cuts.{is_blank};
 ghost use Rattle.apx_tgf.specs.Names.{is_name_byte, IsName};
-ghost use Rattle.apx_tgf.specs.ApxText.{tokens_of};
+ghost use Rattle.apx_tgf.specs.ApxText.{tokens_of, IsToken};
 
 use std::marker::Model;
 
@@ -38,6 +38,7 @@ impl<'a> Tokens<'a> {
     #[inline(always)]
     pub fn next(&mut self) -> Option<&'a [u8]>
         ensures some { IfSome result (λ token. self.old ≡ token.now ∷ self.new) }
+        ensures form { IfSome result (λ token. IsToken token.now) }
         ensures none { IfNone result (self.old ≡ []) }
     {
         let left = &self.text[self.start..];
@@ -58,6 +59,7 @@ fn token_length(bytes: &[u8]) -> usize
     requires some { 0 < length bytes.now }
     requires token { is_blank (slice_index bytes.now 0) ≡ false }
     ensures token { tokens_of bytes.now ≡ take result bytes.now ∷ tokens_of (drop result bytes.now) }
+    ensures form { IsToken (take result bytes.now) }
     ensures within { result ≤ length bytes.now }
 {
     if is_name_byte(bytes[0]) {
@@ -67,9 +69,9 @@ fn token_length(bytes: &[u8]) -> usize
     }
 }
 
-// The number of blanks that the bytes begin with.
+/// The number of blanks that the bytes begin with.
 #[inline(always)]
-fn blanks_length(bytes: &[u8]) -> usize
+pub(crate) fn blanks_length(bytes: &[u8]) -> usize
     ensures index { result ≡ position_or_len (λ byte. not (is_blank byte)) bytes.now }
     ensures within { result ≤ length bytes.now }
 {
@@ -104,6 +106,15 @@ pub(crate) fn is_name(text: &[u8]) -> bool
     ensures { IsTrue result ↔ IsName text.now }
 {
     !text.is_empty() && name_length(text) == text.len()
+}
+
+/// Whether a token is a name, which its first byte tells.
+#[inline(always)]
+pub(crate) fn is_name_token(token: &[u8]) -> bool
+    requires { IsToken token.now }
+    ensures { IsTrue result ↔ IsName token.now }
+{
+    is_name_byte(token[0])
 }
 
 // Whether the byte is space, tab or CR.

@@ -107,6 +107,18 @@ const TGF_TEXTS: &[(&str, &str)] = &[
     ),
     ("a\na", "# 1 a\np af 1\n"),
     ("#", "p af 0\n"),
+    (
+        "a1\na2\na4\na01\na5\n#\na01 a1\na4 a5\na2 a2",
+        "# 1 a1\n# 2 a2\n# 3 a4\n# 4 a01\n# 5 a5\np af 5\n2 2\n3 5\n4 1\n",
+    ),
+    (
+        "b\na09\na10\na11\na9\n#\na9 a09\na11 a10",
+        "# 1 b\n# 2 a09\n# 3 a10\n# 4 a11\n# 5 a9\np af 5\n4 3\n5 2\n",
+    ),
+    (
+        "x98\nx99\nx100\n9\n10\nx101\n#\nx100 x99\n10 9\nx101 x98",
+        "# 1 x98\n# 2 x99\n# 3 x100\n# 4 9\n# 5 10\n# 6 x101\np af 6\n3 2\n5 4\n6 1\n",
+    ),
 ];
 
 /// TGF texts with a fault.
@@ -118,6 +130,10 @@ const TGF_FAULTS: &[(&str, usize, NameCause)] = &[
     ("a\n#\na #", 3, BadLine),
     ("# x", 1, BadLine),
     ("a-b", 1, BadLine),
+    ("a1\na2\n#\na1 a3", 4, UnknownName),
+    ("a1\na2\n#\na1 a2\na01 a2", 5, UnknownName),
+    ("a1\na2\n#\na0 a2", 4, UnknownName),
+    ("a1\na2\n#\na1 a", 4, UnknownName),
 ];
 
 #[test]
