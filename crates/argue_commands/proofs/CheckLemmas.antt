@@ -24,6 +24,7 @@ use Rattle.certificate_claims.specs.declared.certificate.Certificate.{Certificat
 use Rattle.certificate_text.specs.declared.fault.CertFault.{CertFault}
 use Rattle.certificate_text.specs.declared.fault.CertFault.TheVariants as certificate_fault
 use Rattle.argue_commands.specs.Checks.{AcceptsFiles, CheckEnds, ChecksFiles, EndsChecking, HasCheckBytes, IsChecked}
+use Rattle.argue_commands.specs.Checks.{ReadsFiles}
 use Rattle.argue_commands.specs.Checks.{IsTextFault, answer_status, certificate_status, check_inputs}
 use Rattle.argue_commands.specs.Inputs.{EndsReading, Follow, Input, IsRead, IsSoundIn, IsUnrefused, Passes}
 use Rattle.argue_commands.specs.Inputs.{Reading, StopsAt, StopsAtFirst, StopsReading, input, status_of_fault}
@@ -268,18 +269,38 @@ accepts_from holds asked texts bytes read has is ends = record {
   accepts = ends;
 }
 
--- an accepted certificate ends the check so
-pub checks_accepted : (holds : List ℕ → KnownFile) (asked : Asked) (texts : CheckTexts) (read : Checked)
-    → AcceptsFiles holds asked texts read → ChecksFiles holds asked texts Done
-checks_accepted holds asked texts read accepts = record {
+-- what holds of what was read, and accepted, holds of the files
+pub files_read : (holds : List ℕ → KnownFile) (asked : Asked) (texts : CheckTexts) (read : Checked)
+    (Is : AnyFramework → Answer → Certificate → Type 0) → AcceptsFiles holds asked texts read
+    → Is (framework_of read.framework) read.answer read.certificate → ReadsFiles holds texts Is
+files_read holds asked texts read Is accepts is = record {
   framework = framework_of read.framework;
   answer = read.answer;
   certificate = read.certificate;
   of_framework = accepts.of_framework;
   of_answer = accepts.of_answer;
   of_certificate = accepts.of_certificate;
-  ends = accepts.accepts;
+  ends = is;
 }
+
+-- and with it what follows
+pub files_follow : (holds : List ℕ → KnownFile) (texts : CheckTexts) (Is Then : AnyFramework → Answer → Certificate → Type 0)
+    → ((f : AnyFramework) (answer : Answer) (certificate : Certificate) → Is f answer certificate → Then f answer certificate)
+    → ReadsFiles holds texts Is → ReadsFiles holds texts Then
+files_follow holds texts Is Then then of = record {
+  framework = of.framework;
+  answer = of.answer;
+  certificate = of.certificate;
+  of_framework = of.of_framework;
+  of_answer = of.of_answer;
+  of_certificate = of.of_certificate;
+  ends = then of.framework of.answer of.certificate of.ends;
+}
+
+-- an accepted certificate ends the check so
+pub checks_accepted : (holds : List ℕ → KnownFile) (asked : Asked) (texts : CheckTexts) (read : Checked)
+    → AcceptsFiles holds asked texts read → ChecksFiles holds asked texts Done
+checks_accepted holds asked texts read accepts = files_read holds asked texts read _ accepts accepts.accepts
 
 pub judged_err : {T : Type 0} (found : Reading) (asked : Asked) (texts : CheckTexts) (bytes : CheckBytes)
     (read : Checked) (r : Result T Status) → HasCheckBytes found.holds texts bytes → IsChecked bytes read
