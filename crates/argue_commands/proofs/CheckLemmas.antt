@@ -271,9 +271,9 @@ accepts_from holds asked texts bytes read has is ends = record {
 
 -- what holds of what was read, and accepted, holds of the files
 pub files_read : (holds : List ℕ → KnownFile) (asked : Asked) (texts : CheckTexts) (read : Checked)
-    (Is : AnyFramework → Answer → Certificate → Type 0) → AcceptsFiles holds asked texts read
-    → Is (framework_of read.framework) read.answer read.certificate → ReadsFiles holds texts Is
-files_read holds asked texts read Is accepts is = record {
+    (P : AnyFramework → Answer → Certificate → Type 0) → AcceptsFiles holds asked texts read
+    → P (framework_of read.framework) read.answer read.certificate → ReadsFiles holds texts P
+files_read holds asked texts read P accepts is = record {
   framework = framework_of read.framework;
   answer = read.answer;
   certificate = read.certificate;
@@ -284,17 +284,18 @@ files_read holds asked texts read Is accepts is = record {
 }
 
 -- and with it what follows
-pub files_follow : (holds : List ℕ → KnownFile) (texts : CheckTexts) (Is Then : AnyFramework → Answer → Certificate → Type 0)
-    → ((f : AnyFramework) (answer : Answer) (certificate : Certificate) → Is f answer certificate → Then f answer certificate)
-    → ReadsFiles holds texts Is → ReadsFiles holds texts Then
-files_follow holds texts Is Then then of = record {
+pub files_follow : (holds : List ℕ → KnownFile) (texts : CheckTexts)
+    (P Q : AnyFramework → Answer → Certificate → Type 0)
+    → ((f : AnyFramework) (answer : Answer) (certificate : Certificate) → P f answer certificate
+    → Q f answer certificate) → ReadsFiles holds texts P → ReadsFiles holds texts Q
+files_follow holds texts P Q follows of = record {
   framework = of.framework;
   answer = of.answer;
   certificate = of.certificate;
   of_framework = of.of_framework;
   of_answer = of.of_answer;
   of_certificate = of.of_certificate;
-  ends = then of.framework of.answer of.certificate of.ends;
+  ends = follows of.framework of.answer of.certificate of.ends;
 }
 
 -- an accepted certificate ends the check so

@@ -56,14 +56,14 @@ pub record IsCertificateOf (known : KnownFile) (certificate : Certificate) : Typ
 
 -- the files read as a framework, an answer and a certificate, of which this holds
 pub record ReadsFiles (holds : List ℕ → KnownFile) (texts : CheckTexts)
-    (Is : Framework → Answer → Certificate → Type 0) : Type 0 where
+    (P : Framework → Answer → Certificate → Type 0) : Type 0 where
   pub framework : Framework
   pub answer : Answer
   pub certificate : Certificate
   pub of_framework : IsFrameworkOf (holds texts.file) framework
   pub of_answer : IsAnswerOf (holds texts.answer) answer
   pub of_certificate : IsCertificateOf (holds texts.certificate) certificate
-  pub ends : Is framework answer certificate
+  pub ends : P framework answer certificate
 
 -- a check of what the files read as ends so
 abbrev pub ChecksFiles : (List ℕ → KnownFile) → Asked → CheckTexts → Status → Type 0

@@ -1,11 +1,13 @@
 -- How a check of a CNF with its refutation ends as its row says, and what follows.
-use Rattle.std.proofs.Common.{◌≡◌, ◌≢◌, ◌∙◌, ◌⊎◌, ◌<◌, ◌≤◌, ℕ, List, [], codes, length, refl, sym, subst, inl, inr, ⊎_elim, arith, Some}
+use Rattle.std.proofs.Common.{◌≡◌, ◌≢◌, ◌∙◌, ◌⊎◌, ◌<◌, ◌≤◌, ℕ, List, [], codes, length, refl, sym, subst, inl, inr}
+use Rattle.std.proofs.Common.{⊎_elim, arith, Some}
 use Rattle.argue_outside.specs.declared.Role.{Role}
 use Rattle.argue_outside.specs.declared.Role.TheVariants as role
 use Rattle.argue_words.specs.Words.{LratTexts}
 use Rattle.num_text.specs.declared.limit.TheConstants.{MAX_INPUT}
 use Rattle.lrat_text.specs.CnfText.{Formula, IsCnfText}
-use Rattle.lrat_commands.specs.Verifying.{EndsVerifying, IsCnfOf, IsUnsatisfiableOf, LratEnds, VerifiesFiles, lrat_inputs}
+use Rattle.lrat_commands.specs.Verifying.{EndsVerifying, IsCnfOf, IsUnsatisfiableOf, LratEnds, VerifiesFiles}
+use Rattle.lrat_commands.specs.Verifying.{lrat_inputs}
 use Rattle.lrat_text.proofs.OneReading.{one_formula, text_no_fault}
 use Rattle.lrat_commands.proofs.VerifyingLemmas.{verified_unsatisfiable}
 use Rattle.argue_commands.specs.Inputs.{HasReadFault, IsSoundOf, Reading, StopsAt, StopsAtFirst, input}

@@ -7,7 +7,8 @@ use Rattle.argue_words.specs.declared.words.Command.{Command}
 use Rattle.argue_words.specs.declared.words.Command.TheVariants.{Unknown}
 use Rattle.argue_words.specs.declared.words.CommandName.{CommandName}
 use Rattle.argue_words.specs.Words.{AreUnknown, RefusesOthers, Request, unknown, asked, asked_by, asked_if, command_app}
-use Rattle.argue_words.specs.Words.{command_named, named, other_requested, request_of, requested, requested_by, solve_app}
+use Rattle.argue_words.specs.Words.{command_named, named, other_requested, request_of, requested, requested_by}
+use Rattle.argue_words.specs.Words.{solve_app}
 use Rattle.argue_words.specs.Words.{solve_request, value_of, words_are_problems}
 use Rattle.argue_words.proofs.RequestNames.{other_if, refused_by}
 use Rattle.argue_words.proofs.RequestLaws.{are_unknown}
@@ -50,8 +51,8 @@ solve_known (Some task) None number budget certificate a b is = cc
 solve_known (Some task) (Some file) number budget certificate a b is = cc
 
 -- a query whose task and file have values is known
-pub query_known : (name : Option CommandName) (found : Text → Option Text) (c : Command) → request_of c ≡ asked name found
-    → (name ≡ None → IsSome (found (codes "task")) × IsSome (found (codes "file"))) → c ≡ Unknown → name ≡ None → ⊥
+pub query_known : (name : Option CommandName) (found : Text → Option Text) (c : Command)
+    → request_of c ≡ asked name found → (name ≡ None → IsSome (found (codes "task")) × IsSome (found (codes "file"))) → c ≡ Unknown → name ≡ None → ⊥
 query_known name found c asks given is none =
     solve_known _ _ _ _ _ (given none).0 (given none).1
     (sym (ap request_of is) ∙ (asks ∙ ap (λ n. asked n found) none))

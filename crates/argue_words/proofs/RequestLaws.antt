@@ -8,8 +8,10 @@ use Rattle.clap.proofs.OnLiterals.{clap_on_literals}
 use Rattle.argue_words.specs.declared.words.CommandName.{CommandName}
 use Rattle.argue_words.specs.declared.words.CommandName.TheVariants as command
 use Rattle.argue_words.specs.Words.{AfTexts, AreUnknown, AreWords, BenchTexts, CheckTexts, ExportTexts, IsAfQuery}
-use Rattle.argue_words.specs.Words.{HasValues, IsBenchQuery, IsCheckQuery, IsCommand, IsExportQuery, IsLiveQuery, IsLratQuery}
-use Rattle.argue_words.specs.Words.{IsNamesQuery, IsSolveQuery, LiveTexts, LratTexts, NamesTexts, Request, SolveTexts, RefusesOthers}
+use Rattle.argue_words.specs.Words.{HasValues, IsBenchQuery, IsCheckQuery, IsCommand, IsExportQuery, IsLiveQuery}
+use Rattle.argue_words.specs.Words.{IsLratQuery}
+use Rattle.argue_words.specs.Words.{IsNamesQuery, IsSolveQuery, LiveTexts, LratTexts, NamesTexts, Request}
+use Rattle.argue_words.specs.Words.{SolveTexts, RefusesOthers}
 use Rattle.argue_words.specs.Words.{version, problems, solving, checking, living, benching, by_name, numbering}
 use Rattle.argue_words.specs.Words.{verifying, exporting, unknown, command_app, command_named, named, options_of}
 use Rattle.argue_words.specs.Words.{requested, requested_by, solve_app, words_are_problems}
@@ -83,7 +85,8 @@ pub requested_af : (words : List Text) (texts : AfTexts) → IsAfQuery words tex
 requested_af words texts = command_asks command.Af words (numbering texts) refl
 
 -- a check of a refutation asks for its texts
-pub requested_lrat : (words : List Text) (texts : LratTexts) → IsLratQuery words texts → requested words ≡ verifying texts
+pub requested_lrat : (words : List Text) (texts : LratTexts) → IsLratQuery words texts
+    → requested words ≡ verifying texts
 requested_lrat words texts = command_asks command.Lrat words (verifying texts) refl
 
 -- the texts of a refutation are asked for by their texts

@@ -133,7 +133,8 @@ module _ (value : Text → Option Text) where
   check_read (Some task) None answer certificate a b c d = inl refl
   check_read (Some task) (Some file) None certificate a b c d = inl refl
   check_read (Some task) (Some file) (Some answer) None a b c d = inl refl
-  check_read (Some task) (Some file) (Some answer) (Some certificate) a b c d = inr (refl, (a, (refl, (b, (c, (d, tt))))))
+  check_read (Some task) (Some file) (Some answer) (Some certificate) a b c d =
+      inr (refl, (a, (refl, (b, (c, (d, tt))))))
 
   live_read : (file script : Option Text) → value (codes "file") ≡ file → value (codes "script") ≡ script
       → IsReadAs (Some command.Live) value (live_request file script (value (codes "budget"))
@@ -241,7 +242,8 @@ of_asked n words request name (inr h) is = (some_same (sym h.0 ∙ is), h.1)
 pub asked_has : (n : Option CommandName) (words : List Text) (request : Request) (name : Option CommandName)
     → asked_by n words ≡ request → request_name request ≡ Some name
     → (n ≡ name) × HasValues n words (request_values request)
-asked_has n words request name asks = of_asked n words request name (subst (IsFromWords n words) asks (by_asked n words))
+asked_has n words request name asks =
+    of_asked n words request name (subst (IsFromWords n words) asks (by_asked n words))
 
 of_unread : (n : Option CommandName) (words : List Text) (request : Request) → request_name request ≡ None
     → IsFromWords n words request → request ≡ unknown

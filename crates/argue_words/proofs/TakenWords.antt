@@ -1,6 +1,6 @@
 -- Words that clap takes for each command, and words that it does not.
 use Rattle.std.proofs.Common.{◌≡◌, ◌≢◌, ◌∙◌, ◌&&◌, Bool, true, false, true≢false, refl, sym, ap, subst}
-use Rattle.std.proofs.Common.{List, [], ◌∷◌, None, Some, codes}
+use Rattle.std.proofs.Common.{List, [], ◌∷◌, Option, None, Some, codes}
 use Rattle.std.specs.List.{list_all}
 use Rattle.std.specs.Prelude.{fold, slice_get}
 use Rattle.clap.specs.Walk.{Held, Walk, finished, nothing_held, walk, walked}
@@ -9,9 +9,10 @@ use Rattle.clap.specs.Words.{Shape, Text, built, first_of, takes}
 use Rattle.clap.proofs.TakesLemmas.{leaf_takes}
 use Rattle.clap.proofs.OnLiterals.{clap_on_literals}
 use Rattle.argue_words.specs.declared.words.CommandName.TheVariants as command
-use Rattle.argue_words.specs.Words.{AreUnknown, IsAfQuery, IsBenchQuery, IsCheckQuery, IsExportQuery, IsLiveQuery}
-use Rattle.argue_words.specs.Words.{IsLratQuery, IsNamesQuery, IsSolveQuery, SolveTexts, command_app, command_named}
-use Rattle.argue_words.specs.Words.{options_of, solve_app, words_are_problems}
+use Rattle.argue_words.specs.Words.{AreUnknown, AreValues, IsAfQuery, IsBenchQuery, IsCheckQuery, IsExportQuery}
+use Rattle.argue_words.specs.Words.{IsLiveQuery, IsLratQuery, IsNamesQuery, IsSolveQuery, SolveTexts, command_app}
+use Rattle.argue_words.specs.Words.{command_named}
+use Rattle.argue_words.specs.Words.{options_of, solve_app, solve_values, words_are_problems}
 use Rattle.argue_words.proofs.RequestLaws.{are_unknown}
 use Rattle.argue_words.proofs.RequestNames.{other_if, refused_by, requested_other}
 use Rattle.argue_words.proofs.ValueWords.{no_flag, value_turn, value_walked}
@@ -39,6 +40,10 @@ task_words = codes "-p" ∷ codes "SE-GR" ∷ []
 abbrev plain_texts : Text → Text → SolveTexts
 plain_texts task file = record { task = task; file = file; number = None; budget = None; certificate = None }
 
+-- the values of such a query
+abbrev HasTexts : Text → (Text → Option Text) → Type 0
+HasTexts file value = AreValues value (solve_values (plain_texts (codes "SE-GR") file))
+
 -- any name of a file that begins with no hyphen, after the task
 pub task_first : (file : Text) → slice_get file 0 ≢ Some 45
     → IsSolveQuery (codes "-p" ∷ codes "SE-GR" ∷ codes "-f" ∷ file ∷ []) (plain_texts (codes "SE-GR") file)
@@ -48,7 +53,7 @@ task_first file other =
     let h : Held = held_after (codes "-p" ∷ codes "SE-GR" ∷ codes "-f" ∷ []) in
     let step = value_walked [] (codes "file") 1 h file (no_flag file other) top.rules in
     let turn = value_turn [] (codes "file") 1 h file (no_flag file other) top in
-    let found = λ (id : Text). ap (λ (w : Walk). first_of id (finished top.rules w.held)) step in
+    let found = ap (λ (w : Walk) (id : Text). first_of id (finished top.rules w.held)) step in
     record {
       no_name = refl;
       no_list = refl;
@@ -56,8 +61,7 @@ task_first file other =
         taken = both_from _ _ refl (leaf_takes (built solve_app) nothing_held words refl
             (both_from _ _ (both_from _ _ refl (both_from _ _ refl (both_from _ _ refl (both_from _ _ turn refl))))
             (subst (λ w. ends w ≡ true) (sym step) refl)));
-        values_are = (found (codes "task"), (found (codes "file"), (found (codes "number"), (found (codes "budget"),
-            (found (codes "certificate"), tt)))));
+        values_are = subst (HasTexts file) (sym found) (refl, (refl, (refl, (refl, (refl, tt)))));
       };
     }
 
@@ -70,7 +74,7 @@ file_first file other =
     let h : Held = held_after (codes "-f" ∷ []) in
     let step = value_walked [] (codes "file") 1 h file (no_flag file other) top.rules in
     let turn = value_turn [] (codes "file") 1 h file (no_flag file other) top in
-    let found = λ (id : Text). ap (λ (w : Walk). first_of id (finished top.rules (walked_on w task_words).held)) step in
+    let found = ap (λ (w : Walk) (id : Text). first_of id (finished top.rules (walked_on w task_words).held)) step in
     record {
       no_name = refl;
       no_list = refl;
@@ -80,8 +84,7 @@ file_first file other =
             (both_from _ _ refl
             (both_from _ _ turn (subst (λ w. walk_passes top [] w task_words ≡ true) (sym step) refl)))
             (subst (λ w. ends (walked_on w task_words) ≡ true) (sym step) refl)));
-        values_are = (found (codes "task"), (found (codes "file"), (found (codes "number"), (found (codes "budget"),
-            (found (codes "certificate"), tt)))));
+        values_are = subst (HasTexts file) (sym found) (refl, (refl, (refl, (refl, (refl, tt)))));
       };
     }
 
@@ -112,8 +115,8 @@ query_with_all = record {
 }
 
 abbrev check_words : List Text
-check_words = codes "-p" ∷ codes "DS-PR" ∷ codes "-f" ∷ codes "a.af" ∷ codes "-a" ∷ codes "4" ∷ codes "-r" ∷ codes "b" ∷ codes "-c"
-    ∷ codes "c" ∷ []
+check_words = codes "-p" ∷ codes "DS-PR" ∷ codes "-f" ∷ codes "a.af" ∷ codes "-a" ∷ codes "4" ∷ codes "-r"
+    ∷ codes "b" ∷ codes "-c" ∷ codes "c" ∷ []
 
 pub check_with_number : IsCheckQuery (codes "check" ∷ check_words) (record {
   task = codes "DS-PR";
@@ -160,11 +163,12 @@ live_alone = record {
 -- a script's run wants a script
 pub no_script : AreUnknown (codes "live" ∷ codes "-f" ∷ codes "a.af" ∷ [])
 unfolding clap_on_literals command_app options_of
-no_script = are_unknown _ (λ none. cc) (refused_by (Some command.Live) (codes "-f" ∷ codes "a.af" ∷ []) refl) (λ none. cc)
+no_script =
+    are_unknown _ (λ none. cc) (refused_by (Some command.Live) (codes "-f" ∷ codes "a.af" ∷ []) refl) (λ none. cc)
 
 abbrev names_words : List Text
-names_words = codes "-p" ∷ codes "DC-CO" ∷ codes "-f" ∷ codes "a.apx" ∷ codes "-a" ∷ codes "b" ∷ codes "-k" ∷ codes "apx"
-    ∷ []
+names_words = codes "-p" ∷ codes "DC-CO" ∷ codes "-f" ∷ codes "a.apx" ∷ codes "-a" ∷ codes "b" ∷ codes "-k"
+    ∷ codes "apx" ∷ []
 
 pub names_with_name : IsNamesQuery (codes "names" ∷ names_words) (record {
   task = codes "DC-CO";
@@ -186,14 +190,16 @@ af_words = codes "-f" ∷ codes "a.tgf" ∷ codes "-k" ∷ codes "tgf" ∷ []
 
 pub af_with_both : IsAfQuery (codes "af" ∷ af_words) (record { kind = codes "tgf"; file = codes "a.tgf" })
 unfolding clap_on_literals command_app options_of
-af_with_both = record { rest = af_words; words_are = refl; has = record { taken = refl; values_are = (refl, (refl, tt)) } }
+af_with_both =
+    record { rest = af_words; words_are = refl; has = record { taken = refl; values_are = (refl, (refl, tt)) } }
 
 abbrev lrat_words : List Text
 lrat_words = codes "-l" ∷ codes "a.lrat" ∷ codes "-d" ∷ codes "a.cnf" ∷ []
 
 pub lrat_with_both : IsLratQuery (codes "lrat" ∷ lrat_words) (record { cnf = codes "a.cnf"; lrat = codes "a.lrat" })
 unfolding clap_on_literals command_app options_of
-lrat_with_both = record { rest = lrat_words; words_are = refl; has = record { taken = refl; values_are = (refl, (refl, tt)) } }
+lrat_with_both =
+    record { rest = lrat_words; words_are = refl; has = record { taken = refl; values_are = (refl, (refl, tt)) } }
 
 abbrev export_words : List Text
 export_words = codes "-o" ∷ codes "a" ∷ codes "-i" ∷ codes "0" ∷ codes "-p" ∷ codes "DS-PR" ∷ codes "-f" ∷ codes "a.af"

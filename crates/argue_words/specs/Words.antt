@@ -6,7 +6,8 @@ use Rattle.std.specs.Str.{bytes_eq}
 use Rattle.clap.specs.Words.{App, Rule, Text, first_of, matches_of, new_app, new_rule, takes, with_rule}
 use Rattle.clap.specs.declared.builder.ArgAction.TheVariants.{Set}
 use Rattle.argue_words.specs.declared.words.Command.{Command}
-use Rattle.argue_words.specs.declared.words.Command.TheVariants.{Version, Problems, Solve, Check, Live, Bench, Names, Af, Lrat}
+use Rattle.argue_words.specs.declared.words.Command.TheVariants.{Version, Problems, Solve, Check, Live, Bench}
+use Rattle.argue_words.specs.declared.words.Command.TheVariants.{Names, Af, Lrat}
 use Rattle.argue_words.specs.declared.words.Command.TheVariants.{Export, Unknown}
 use Rattle.argue_words.specs.declared.words.CommandName.{CommandName}
 use Rattle.argue_words.specs.declared.words.CommandName.TheVariants as command
@@ -135,8 +136,8 @@ pub record SolveTexts : Type 0 where
   pub certificate : Option Text
 
 abbrev pub solve_values : SolveTexts → List (Text × Option Text)
-solve_values texts = (codes "task" , Some texts.task) ∷ (codes "file" , Some texts.file) ∷ (codes "number" , texts.number)
-    ∷ (codes "budget" , texts.budget) ∷ (codes "certificate" , texts.certificate) ∷ []
+solve_values texts = (codes "task", Some texts.task) ∷ (codes "file", Some texts.file) ∷ (codes "number", texts.number)
+    ∷ (codes "budget", texts.budget) ∷ (codes "certificate", texts.certificate) ∷ []
 
 -- the words name no command, and ask a query with these texts
 pub record IsSolveQuery (words : List Text) (texts : SolveTexts) : Type 0 where
@@ -155,8 +156,8 @@ pub record CheckTexts : Type 0 where
   pub certificate : Text
 
 abbrev pub check_values : CheckTexts → List (Text × Option Text)
-check_values texts = (codes "task" , Some texts.task) ∷ (codes "number" , texts.number) ∷ (codes "file" , Some texts.file)
-    ∷ (codes "answer" , Some texts.answer) ∷ (codes "certificate" , Some texts.certificate) ∷ []
+check_values texts = (codes "task", Some texts.task) ∷ (codes "number", texts.number) ∷ (codes "file", Some texts.file)
+    ∷ (codes "answer", Some texts.answer) ∷ (codes "certificate", Some texts.certificate) ∷ []
 
 -- the words ask for a check with these texts
 abbrev pub IsCheckQuery : List Text → CheckTexts → Type 0
@@ -173,8 +174,8 @@ pub record LiveTexts : Type 0 where
   pub certificate : Option Text
 
 abbrev pub live_values : LiveTexts → List (Text × Option Text)
-live_values texts = (codes "file" , Some texts.file) ∷ (codes "script" , Some texts.script)
-    ∷ (codes "budget" , texts.budget) ∷ (codes "certificate" , texts.certificate) ∷ []
+live_values texts = (codes "file", Some texts.file) ∷ (codes "script", Some texts.script)
+    ∷ (codes "budget", texts.budget) ∷ (codes "certificate", texts.certificate) ∷ []
 
 -- the words ask for a script's run with these texts
 abbrev pub IsLiveQuery : List Text → LiveTexts → Type 0
@@ -188,7 +189,7 @@ pub record BenchTexts : Type 0 where
   pub seed : Text
 
 abbrev pub bench_values : BenchTexts → List (Text × Option Text)
-bench_values texts = (codes "arguments" , Some texts.arguments) ∷ (codes "seed" , Some texts.seed) ∷ []
+bench_values texts = (codes "arguments", Some texts.arguments) ∷ (codes "seed", Some texts.seed) ∷ []
 
 -- the words ask for the run of a large input with these texts
 abbrev pub IsBenchQuery : List Text → BenchTexts → Type 0
@@ -207,8 +208,8 @@ pub record NamesTexts : Type 0 where
   pub certificate : Option Text
 
 abbrev pub names_values : NamesTexts → List (Text × Option Text)
-names_values texts = (codes "task" , Some texts.task) ∷ (codes "kind" , Some texts.kind) ∷ (codes "file" , Some texts.file)
-    ∷ (codes "name" , texts.name) ∷ (codes "budget" , texts.budget) ∷ (codes "certificate" , texts.certificate) ∷ []
+names_values texts = (codes "task", Some texts.task) ∷ (codes "kind", Some texts.kind) ∷ (codes "file", Some texts.file)
+    ∷ (codes "name", texts.name) ∷ (codes "budget", texts.budget) ∷ (codes "certificate", texts.certificate) ∷ []
 
 -- the words ask a query by names with these texts
 abbrev pub IsNamesQuery : List Text → NamesTexts → Type 0
@@ -222,7 +223,7 @@ pub record AfTexts : Type 0 where
   pub file : Text
 
 abbrev pub af_values : AfTexts → List (Text × Option Text)
-af_values texts = (codes "kind" , Some texts.kind) ∷ (codes "file" , Some texts.file) ∷ []
+af_values texts = (codes "kind", Some texts.kind) ∷ (codes "file", Some texts.file) ∷ []
 
 -- the words ask for a text with numbers, with these texts
 abbrev pub IsAfQuery : List Text → AfTexts → Type 0
@@ -236,7 +237,7 @@ pub record LratTexts : Type 0 where
   pub lrat : Text
 
 abbrev pub lrat_values : LratTexts → List (Text × Option Text)
-lrat_values texts = (codes "cnf" , Some texts.cnf) ∷ (codes "lrat" , Some texts.lrat) ∷ []
+lrat_values texts = (codes "cnf", Some texts.cnf) ∷ (codes "lrat", Some texts.lrat) ∷ []
 
 -- the words ask for a check of a refutation, with these texts
 abbrev pub IsLratQuery : List Text → LratTexts → Type 0
@@ -252,7 +253,7 @@ pub record ExportTexts : Type 0 where
   pub output : Text
 
 abbrev pub export_values : ExportTexts → List (Text × Option Text)
-export_values texts = (codes "refutation" , Some texts.refutation) ∷ (codes "output" , Some texts.output)
+export_values texts = (codes "refutation", Some texts.refutation) ∷ (codes "output", Some texts.output)
     ∷ check_values texts.check
 
 -- the words ask for the texts of a refutation, with these texts
@@ -371,8 +372,8 @@ asked (Some command.Names) value = names_request (value (codes "task")) (value (
     (value (codes "name")) (value (codes "budget")) (value (codes "certificate"))
 asked (Some command.Af) value = af_request (value (codes "kind")) (value (codes "file"))
 asked (Some command.Lrat) value = lrat_request (value (codes "cnf")) (value (codes "lrat"))
-asked (Some command.Export) value = export_request (value (codes "task")) (value (codes "number")) (value (codes "file"))
-    (value (codes "answer")) (value (codes "certificate")) (value (codes "refutation")) (value (codes "output"))
+asked (Some command.Export) value = export_request (value (codes "task")) (value (codes "number"))
+    (value (codes "file")) (value (codes "answer")) (value (codes "certificate")) (value (codes "refutation")) (value (codes "output"))
 
 -- what a command's words ask for, by whether clap takes them
 abbrev pub asked_if : Option CommandName → List Text → Bool → Request

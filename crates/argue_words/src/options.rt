@@ -18,6 +18,7 @@ const SOLVE: &[Row] = &[
     ("budget", 'b', false),
     ("certificate", 'c', false),
 ];
+
 const CHECK: &[Row] = &[
     ("task", 'p', true),
     ("file", 'f', true),
@@ -25,13 +26,16 @@ const CHECK: &[Row] = &[
     ("certificate", 'c', true),
     ("number", 'a', false),
 ];
+
 const LIVE: &[Row] = &[
     ("file", 'f', true),
     ("script", 's', true),
     ("budget", 'b', false),
     ("certificate", 'c', false),
 ];
+
 const BENCH: &[Row] = &[("arguments", 'n', true), ("seed", 'x', true)];
+
 const NAMES: &[Row] = &[
     ("task", 'p', true),
     ("file", 'f', true),
@@ -40,8 +44,11 @@ const NAMES: &[Row] = &[
     ("budget", 'b', false),
     ("certificate", 'c', false),
 ];
+
 const AF: &[Row] = &[("file", 'f', true), ("kind", 'k', true)];
+
 const LRAT: &[Row] = &[("cnf", 'd', true), ("lrat", 'l', true)];
+
 const EXPORT: &[Row] = &[
     ("task", 'p', true),
     ("file", 'f', true),

@@ -3,7 +3,8 @@
 ghost use Rattle.std.specs.Prelude.{◌≡◌, ◌≢◌, IfErr, IfOk, IsErr, IsSome, List, None, Some, [], ℕ, codes, map};
 ghost use Rattle.std.specs.Prelude.{string_bytes, true};
 ghost use Rattle.clap.specs.Words.{first_value, found_of, kind_of, takes};
-ghost use Rattle.argue_words.specs.Words.{AreUnknown, RefusesOthers, asked, asked_by, command_app, named, other_requested};
+ghost use Rattle.argue_words.specs.Words.{AreUnknown, RefusesOthers, asked, asked_by, command_app, named};
+ghost use Rattle.argue_words.specs.Words.{other_requested};
 ghost use Rattle.argue_words.specs.Words.{request_of, requested, solve_app, value_of, words_are_problems};
 
 use crate::options::command_of;

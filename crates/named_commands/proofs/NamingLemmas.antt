@@ -1,5 +1,6 @@
 -- How a query by names, and the making of a text with numbers, end on the bytes of a file.
-use Rattle.std.proofs.Common.{◌≡◌, ◌≢◌, ◌≤◌, ℕ, List, length, refl, sym, subst, inl, inr, true, Option, Some, None, Result, Ok, Err}
+use Rattle.std.proofs.Common.{◌≡◌, ◌≢◌, ◌≤◌, ℕ, List, length, refl, sym, subst, inl, inr, true, Option, Some, None}
+use Rattle.std.proofs.Common.{Result, Ok, Err}
 use Rattle.std.specs.Prelude.{Contains, IfErr, IfOk, IsSome}
 use Rattle.argue_outside.specs.Outside.{KnownFile}
 use Rattle.argue_outside.specs.declared.Role.TheVariants.{Framework}
@@ -21,7 +22,8 @@ use Rattle.argue_commands.specs.declared.ended.Status.{Status}
 use Rattle.argue_commands.specs.declared.ended.Status.TheVariants.{Done, Usage, InputRefused, ReadFault, WriteFault}
 use Rattle.argue_commands.specs.declared.ended.Status.TheVariants.{WantOfMemory, Unknown, Limit, Rejected}
 use Rattle.argue_commands.proofs.InputLemmas.{follow_none}
-use Rattle.named_commands.specs.Namings.{AnswersNamed, AnswersNamedFile, AsksUnknown, EndsNaming, IsNumberAsked, IsUnknown}
+use Rattle.named_commands.specs.Namings.{AnswersNamed, AnswersNamedFile, AsksUnknown, EndsNaming, IsNumberAsked}
+use Rattle.named_commands.specs.Namings.{IsUnknown}
 use Rattle.named_commands.specs.Namings.{StopsNaming, fits_name, names_status}
 use Rattle.named_commands.specs.Numberings.{IsNumbered, IsNumberedOf, StopsNumbering}
 use Rattle.named_commands.specs.declared.naming.Naming.{Naming}
