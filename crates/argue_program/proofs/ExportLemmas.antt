@@ -107,17 +107,16 @@ module _ (found : Reading) (by : Option Exporting) (texts : ExportTexts) (ending
       let row = export_row found.holds (Some wanted) texts in
       let writes : WritesExport found.holds wanted texts (text_bytes ending.text) (map file_text ending.files) =
       record { exported = exported; is = exports; text_is = text; files_are = files } in
+      let ends : ExportsFiles found.holds wanted texts.check Done =
+      files_follow found.holds texts.check _ _ (λ f answer certificate of. (
+        of.0,
+        (
+          (let at = of.1.number_is in omega arith),
+          (let at = of.1.number_is in let in_range = of.1.within in omega arith),
+        ),
+      )) exports in
       subst IsExportEnding (sym is) (record {
-        cause = rw status (rw kept (inr (
-          refl,
-          files_follow found.holds texts.check _ _ (λ f answer certificate exported. (
-            exported.0,
-            (
-              (let at = exported.1.number_is in omega arith),
-              (let at = exported.1.number_is in let in_range = exported.1.within in omega arith),
-            ),
-          )) exports,
-        )));
+        cause = rw status (rw kept (inr (refl, ends)));
         text = text_done ending.status (row.Says ending.kept ending.status) (text_bytes ending.text) status
             (map file_text ending.files, writes);
         files = files_done ending.status (row.Writes ending.kept ending.status (text_bytes ending.text))

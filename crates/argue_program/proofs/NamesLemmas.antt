@@ -9,7 +9,7 @@ use Rattle.semantics.specs.Frameworks.{af}
 use Rattle.apx_tgf.specs.NamedText.{ReadsAs}
 use Rattle.apx_tgf.specs.declared.format.NameFormat.{NameFormat}
 use Rattle.apx_tgf.proofs.TextLemmas.{ReadsAs-faultless, ReadsAs-same}
-use Rattle.argue_commands.specs.Inputs.{HasReadFault, IsSoundOf, Reading, StopsAt, named_input}
+use Rattle.argue_commands.specs.Inputs.{HasBytes, HasReadFault, IsSoundOf, Reading, StopsAt, named_input}
 use Rattle.argue_commands.specs.Solves.{IsSessionOf}
 use Rattle.argue_commands.specs.declared.ended.FaultCause.TheVariants as cause
 use Rattle.argue_commands.specs.declared.ended.Status.{Status}
@@ -161,32 +161,24 @@ abbrev pub EndsInFormat : Reading → NameFormat → List ℕ → Status → Typ
 EndsInFormat found format file end =
     StopsAt found end (named_input format file) ⊎ ((end ≡ WantOfMemory) ⊎ IsNamed (found.holds file) format)
 
+named_in : (found : Reading) (format : NameFormat) (file : List ℕ) (end : Status) (names : List (List ℕ)) (f : Af)
+    (bytes : List ℕ) → HasBytes (found.holds file) bytes → ReadsAs format bytes names f
+    → EndsInFormat found format file end
+named_in found format file end names f bytes has reads =
+    inr (inr (names, f, record { bytes = bytes; has = has; reads = reads }))
+
 pub asking_in : (found : Reading) (texts : NamesTexts) (naming : Naming) (kept : Transcript) (end : Status)
     → EndsAsking found texts naming kept end → EndsInFormat found naming.format texts.file end
 asking_in found texts naming kept end (inl stops) = inl stops
 asking_in found texts naming kept end (inr (inl is)) = inr (inl is)
 asking_in found texts naming kept end (inr (inr (inl named))) =
     let file = named.answers in
-    inr (inr (
-      file.answers.names,
-      file.answers.framework,
-      record {
-        bytes = file.bytes;
-        has = file.has;
-        reads = file.answers.reads;
-      },
-    ))
+    named_in found naming.format texts.file end file.answers.names file.answers.framework file.bytes file.has
+    file.answers.reads
 asking_in found texts naming kept end (inr (inr (inr unnamed))) =
     let file = unnamed.asks in
-    inr (inr (
-      file.asks.names,
-      file.asks.framework,
-      record {
-        bytes = file.bytes;
-        has = file.has;
-        reads = file.asks.reads;
-      },
-    ))
+    named_in found naming.format texts.file end file.asks.names file.asks.framework file.bytes file.has
+    file.asks.reads
 
 pub numbering_in : (found : Reading) (texts : AfTexts) (format : NameFormat) (kept : Transcript) (end : Status)
     → EndsNumbering found texts format kept end → EndsInFormat found format texts.file end
@@ -194,15 +186,8 @@ numbering_in found texts format kept end (inl stops) = inl stops
 numbering_in found texts format kept end (inr (inl is)) = inr (inl is)
 numbering_in found texts format kept end (inr (inr numbered)) =
     let file = numbered.is in
-    inr (inr (
-      file.is.names,
-      file.is.framework,
-      record {
-        bytes = file.bytes;
-        has = file.has;
-        reads = file.is.reads;
-      },
-    ))
+    named_in found format texts.file end file.is.names file.is.framework file.bytes file.has
+    file.is.reads
 
 module _ (found : Reading) (format : NameFormat) (file bytes : List ℕ) (known : found.holds file ≡ Some (Some bytes))
     (read : ¬ HasReadFault found (named_input format file)) where
