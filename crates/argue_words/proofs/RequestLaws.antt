@@ -209,28 +209,28 @@ pub are_unknown : (words : List Text) → words ≢ [] → requested words ≡ u
     → (command_named words ≡ None → RefusesOthers words) → AreUnknown words
 are_unknown words some none other = record {
   some_words = some;
-  no_check = λ texts query. known _ _ refl (requested_texts words texts query) none;
-  no_live = λ texts query. known _ _ refl (requested_script words texts query) none;
-  no_bench = λ texts query. known _ _ refl (requested_input words texts query) none;
-  no_names = λ texts query. known _ _ refl (requested_names words texts query) none;
-  no_af = λ texts query. known _ _ refl (requested_af words texts query) none;
-  no_lrat = λ texts query. known _ _ refl (requested_lrat words texts query) none;
-  no_export = λ texts query. known _ _ refl (requested_export words texts query) none;
+  no_check = λ texts query. known words _ refl (requested_texts words texts query) none;
+  no_live = λ texts query. known words _ refl (requested_script words texts query) none;
+  no_bench = λ texts query. known words _ refl (requested_input words texts query) none;
+  no_names = λ texts query. known words _ refl (requested_names words texts query) none;
+  no_af = λ texts query. known words _ refl (requested_af words texts query) none;
+  no_lrat = λ texts query. known words _ refl (requested_lrat words texts query) none;
+  no_export = λ texts query. known words _ refl (requested_export words texts query) none;
   others = other;
 }
 
 -- and not well-formed
 pub unknown_requested : (words : List Text) → requested words ≡ unknown → ¬ AreWords words
-unknown_requested words is (for_none none) = known _ _ refl (requested_none words none) is
-unknown_requested words is (for_list listed) = known _ _ refl (requested_list words listed) is
-unknown_requested words is (for_solve texts query) = known _ _ refl (requested_query words texts query) is
-unknown_requested words is (for_check texts query) = known _ _ refl (requested_texts words texts query) is
-unknown_requested words is (for_live texts query) = known _ _ refl (requested_script words texts query) is
-unknown_requested words is (for_bench texts query) = known _ _ refl (requested_input words texts query) is
-unknown_requested words is (for_names texts query) = known _ _ refl (requested_names words texts query) is
-unknown_requested words is (for_af texts query) = known _ _ refl (requested_af words texts query) is
-unknown_requested words is (for_lrat texts query) = known _ _ refl (requested_lrat words texts query) is
-unknown_requested words is (for_export texts query) = known _ _ refl (requested_export words texts query) is
+unknown_requested words is (for_none none) = known words _ refl (requested_none words none) is
+unknown_requested words is (for_list listed) = known words _ refl (requested_list words listed) is
+unknown_requested words is (for_solve texts query) = known words _ refl (requested_query words texts query) is
+unknown_requested words is (for_check texts query) = known words _ refl (requested_texts words texts query) is
+unknown_requested words is (for_live texts query) = known words _ refl (requested_script words texts query) is
+unknown_requested words is (for_bench texts query) = known words _ refl (requested_input words texts query) is
+unknown_requested words is (for_names texts query) = known words _ refl (requested_names words texts query) is
+unknown_requested words is (for_af texts query) = known words _ refl (requested_af words texts query) is
+unknown_requested words is (for_lrat texts query) = known words _ refl (requested_lrat words texts query) is
+unknown_requested words is (for_export texts query) = known words _ refl (requested_export words texts query) is
 
 unless_words : (words : List Text) (request : Request) → requested words ≡ request → ¬ AreWords words
     → request ≡ unknown

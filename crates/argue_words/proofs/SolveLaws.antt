@@ -1,18 +1,20 @@
 -- What a parse of a command tells.
-use Rattle.std.proofs.Common.{◌≡◌, ◌≢◌, ◌∙◌, ◌==◌, true, false, true≢false, length, map, refl, sym, ap}
+use Rattle.std.proofs.Common.{◌≡◌, ◌≢◌, ◌∙◌, ◌==◌, ◌≤◌, ℕ, drop, true, false, true≢false, length, map, refl, sym, ap}
 use Rattle.std.proofs.Common.{List, [], ◌∷◌, Option, Some, None, Result, Ok, Err, IfOk, IfErr, IsSome, codes}
 use Rattle.std.specs.List.{list_all}
+use Rattle.std.specs.Prelude.{fold}
+use Rattle.std.proofs.lemmas.List.{drop_all}
 use Rattle.std.proofs.lemmas.Result.{IfOk-weaker}
 use Rattle.clap.specs.Takes.{default_passes}
 use Rattle.clap.specs.Words.{App, FailsBy, HasMatchesOf, IsParsedFrom, Text, app_of, built, fault_of, first_value}
-use Rattle.clap.specs.Words.{first_of, found_of, is_simple, is_simple_and_free, matches_of, takes}
+use Rattle.clap.specs.Words.{first_of, found_of, is_simple, is_simple_and_free, matches_of, takes, with_rule, Rule}
 use Rattle.clap.specs.declared.builder.command.Command.{Command}
 use Rattle.clap.specs.declared.error.Error.{Error}
 use Rattle.clap.specs.declared.parser.matches.ArgMatches.{ArgMatches}
 use Rattle.clap.proofs.WalkLemmas.{first_value-rows}
 use Rattle.argue_words.specs.declared.words.CommandName.{CommandName}
 use Rattle.argue_words.specs.declared.words.CommandName.TheVariants as command
-use Rattle.argue_words.specs.Words.{command_app, options_of, solve_app, value_of}
+use Rattle.argue_words.specs.Words.{bare_app, command_app, options_of, solve_app, value_of}
 use Rattle.argue_words.proofs.NoFault.{takes_if}
 use Rattle.argue_words.proofs.ValuesGiven.{solve_rules, values_given}
 
@@ -96,6 +98,15 @@ given_at name c r is = IfOk-weaker r _ _ (λ m p none.
     let query : app_of c ≡ solve_app = is ∙ ap command_app none in
     let fields = solve_is_plain (app_of c) query in
     values_given c m (rules_of_solve (app_of c) query) fields.0 fields.1 p)
+
+-- options that have all been added make the command
+pub all_added : {X : Type 0} (rule : X → Rule) (rows : List X) (n : ℕ) (app : App) (name : Option CommandName)
+    → length rows ≤ n → fold with_rule app (map rule (drop n rows)) ≡ fold with_rule bare_app (map rule rows)
+    → map rule rows ≡ options_of name → app ≡ command_app name
+unfolding command_app
+all_added rule rows n app name past added are =
+    sym (ap (λ xs. fold with_rule app (map rule xs)) (drop_all n rows past))
+    ∙ (added ∙ ap (fold with_rule bare_app) are)
 
 -- ---- words
 

@@ -53,7 +53,7 @@ task_first file other =
     let h : Held = held_after (codes "-p" ∷ codes "SE-GR" ∷ codes "-f" ∷ []) in
     let step = value_walked [] (codes "file") 1 h file (no_flag file other) top.rules in
     let turn = value_turn [] (codes "file") 1 h file (no_flag file other) top in
-    let found = ap (λ (w : Walk) (id : Text). first_of id (finished top.rules w.held)) step in
+    let values : Walk → Text → Option Text = λ w id. first_of id (finished top.rules w.held) in
     record {
       no_name = refl;
       no_list = refl;
@@ -61,7 +61,7 @@ task_first file other =
         taken = both_from _ _ refl (leaf_takes (built solve_app) nothing_held words refl
             (both_from _ _ (both_from _ _ refl (both_from _ _ refl (both_from _ _ refl (both_from _ _ turn refl))))
             (subst (λ w. ends w ≡ true) (sym step) refl)));
-        values_are = subst (HasTexts file) (sym found) (refl, (refl, (refl, (refl, (refl, tt)))));
+        values_are = subst (HasTexts file) (sym (ap values step)) (refl, (refl, (refl, (refl, (refl, tt)))));
       };
     }
 
@@ -74,7 +74,7 @@ file_first file other =
     let h : Held = held_after (codes "-f" ∷ []) in
     let step = value_walked [] (codes "file") 1 h file (no_flag file other) top.rules in
     let turn = value_turn [] (codes "file") 1 h file (no_flag file other) top in
-    let found = ap (λ (w : Walk) (id : Text). first_of id (finished top.rules (walked_on w task_words).held)) step in
+    let values : Walk → Text → Option Text = λ w id. first_of id (finished top.rules (walked_on w task_words).held) in
     record {
       no_name = refl;
       no_list = refl;
@@ -84,7 +84,7 @@ file_first file other =
             (both_from _ _ refl
             (both_from _ _ turn (subst (λ w. walk_passes top [] w task_words ≡ true) (sym step) refl)))
             (subst (λ w. ends (walked_on w task_words) ≡ true) (sym step) refl)));
-        values_are = subst (HasTexts file) (sym found) (refl, (refl, (refl, (refl, (refl, tt)))));
+        values_are = subst (HasTexts file) (sym (ap values step)) (refl, (refl, (refl, (refl, (refl, tt)))));
       };
     }
 
