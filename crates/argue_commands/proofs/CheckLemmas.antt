@@ -285,10 +285,10 @@ files_read holds asked texts read P accepts is = record {
 
 -- and with it what follows
 pub files_follow : (holds : List ℕ → KnownFile) (texts : CheckTexts)
-    (P Q : AnyFramework → Answer → Certificate → Type 0)
+    (P Q : AnyFramework → Answer → Certificate → Type 0) → ReadsFiles holds texts P
     → ((f : AnyFramework) (answer : Answer) (certificate : Certificate) → P f answer certificate
-    → Q f answer certificate) → ReadsFiles holds texts P → ReadsFiles holds texts Q
-files_follow holds texts P Q follows of = record {
+    → Q f answer certificate) → ReadsFiles holds texts Q
+files_follow holds texts P Q of follows = record {
   framework = of.framework;
   answer = of.answer;
   certificate = of.certificate;

@@ -108,13 +108,13 @@ module _ (found : Reading) (by : Option Exporting) (texts : ExportTexts) (ending
       let writes : WritesExport found.holds wanted texts (text_bytes ending.text) (map file_text ending.files) =
       record { exported = exported; is = exports; text_is = text; files_are = files } in
       let ends : ExportsFiles found.holds wanted texts.check Done =
-      files_follow found.holds texts.check _ _ (λ f answer certificate of. (
+      files_follow found.holds texts.check _ _ exports (λ f answer certificate of. (
         of.0,
         (
           (let at = of.1.number_is in omega arith),
           (let at = of.1.number_is in let in_range = of.1.within in omega arith),
         ),
-      )) exports in
+      )) in
       subst IsExportEnding (sym is) (record {
         cause = rw status (rw kept (inr (refl, ends)));
         text = text_done ending.status (row.Says ending.kept ending.status) (text_bytes ending.text) status

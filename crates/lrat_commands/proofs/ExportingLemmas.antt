@@ -42,8 +42,8 @@ pub check_ends : (found : Reading) (exporting : Exporting) (texts : CheckTexts) 
     → IsSome (common_text end) → EndsChecking found exporting.query texts end → EndsExporting found exporting texts end
 check_ends found exporting texts end told (inl stops) = inl stops
 check_ends found exporting texts end told (inr (inl memory)) = inr (inl memory)
-check_ends found exporting texts end told (inr (inr checks)) = inr (inr (files_follow found.holds texts _ _
-    (λ f answer certificate. check_stops f exporting.query answer certificate exporting.number end told) checks))
+check_ends found exporting texts end told (inr (inr checks)) = inr (inr (files_follow found.holds texts _ _ checks
+    (λ f answer certificate. check_stops f exporting.query answer certificate exporting.number end told)))
 
 -- what is said of what was read is said of the files
 pub exported_ok : (holds : List ℕ → KnownFile) (exporting : Exporting) (texts : CheckTexts) (read : Checked)
