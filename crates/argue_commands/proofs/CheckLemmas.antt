@@ -301,7 +301,8 @@ files_follow holds texts P Q of follows = record {
 -- an accepted certificate ends the check so
 pub checks_accepted : (holds : List ℕ → KnownFile) (asked : Asked) (texts : CheckTexts) (read : Checked)
     → AcceptsFiles holds asked texts read → ChecksFiles holds asked texts Done
-checks_accepted holds asked texts read accepts = files_read holds asked texts read _ accepts accepts.accepts
+checks_accepted holds asked texts read accepts = files_read holds asked texts read
+    (λ framework answer certificate. CheckEnds framework asked answer certificate Done) accepts accepts.accepts
 
 pub judged_err : {T : Type 0} (found : Reading) (asked : Asked) (texts : CheckTexts) (bytes : CheckBytes)
     (read : Checked) (r : Result T Status) → HasCheckBytes found.holds texts bytes → IsChecked bytes read

@@ -108,7 +108,8 @@ module _ (found : Reading) (by : Option Exporting) (texts : ExportTexts) (ending
       let writes : WritesExport found.holds wanted texts (text_bytes ending.text) (map file_text ending.files) =
       record { exported = exported; is = exports; text_is = text; files_are = files } in
       let ends : ExportsFiles found.holds wanted texts.check Done =
-      files_follow found.holds texts.check _ _ exports (λ f answer certificate of. (
+      files_follow found.holds texts.check _ (λ framework answer certificate.
+      ExportEnds framework wanted.query answer certificate wanted.number Done) exports (λ f answer certificate of. (
         of.0,
         (
           (let at = of.1.number_is in omega arith),

@@ -18,7 +18,7 @@ use Rattle.argue_commands.specs.declared.ended.Refusal.TheVariants.{Line, NoRefu
 use Rattle.argue_commands.specs.declared.ended.Status.{Status}
 use Rattle.argue_commands.specs.declared.ended.Status.TheVariants.{Done, Usage, InputRefused, ReadFault, WriteFault}
 use Rattle.argue_commands.specs.declared.ended.Status.TheVariants.{WantOfMemory, Unknown, Limit, Rejected}
-use Rattle.lrat_commands.specs.Exporting.{EndsExporting, ExportEnds, IsExported, IsTextFrom}
+use Rattle.lrat_commands.specs.Exporting.{EndsExporting, ExportEnds, IsExported, IsTextFrom, IsTextOf}
 use Rattle.lrat_commands.specs.declared.exporting.Exporting.{Exporting}
 
 -- what ends the check before it is done ends the export
@@ -42,7 +42,8 @@ pub check_ends : (found : Reading) (exporting : Exporting) (texts : CheckTexts) 
     → IsSome (common_text end) → EndsChecking found exporting.query texts end → EndsExporting found exporting texts end
 check_ends found exporting texts end told (inl stops) = inl stops
 check_ends found exporting texts end told (inr (inl memory)) = inr (inl memory)
-check_ends found exporting texts end told (inr (inr checks)) = inr (inr (files_follow found.holds texts _ _ checks
+check_ends found exporting texts end told (inr (inr checks)) = inr (inr (files_follow found.holds texts _
+    (λ framework answer certificate. ExportEnds framework exporting.query answer certificate exporting.number end) checks
     (λ f answer certificate. check_stops f exporting.query answer certificate exporting.number end told)))
 
 -- what is said of what was read is said of the files
@@ -50,7 +51,9 @@ pub exported_ok : (holds : List ℕ → KnownFile) (exporting : Exporting) (text
     (r : Result Exported Status) → AcceptsFiles holds exporting.query texts read
     → IfOk r (IsTextFrom read exporting) → IfOk r (IsExported holds exporting texts)
 exported_ok holds exporting texts read (Ok e) accepts is =
-    files_read holds exporting.query texts read _ accepts (accepts.accepts, is)
+    files_read holds exporting.query texts read (λ framework answer certificate.
+    CheckEnds framework exporting.query answer certificate Done
+    × IsTextOf framework exporting.query answer certificate exporting.number e) accepts (accepts.accepts, is)
 exported_ok holds exporting texts read (Err end) accepts is = tt
 
 pub exported_err : (found : Reading) (exporting : Exporting) (texts : CheckTexts) (read : Checked)
@@ -61,4 +64,5 @@ pub exported_err : (found : Reading) (exporting : Exporting) (texts : CheckTexts
 exported_err found exporting texts read (Ok e) accepts ends = tt
 exported_err found exporting texts read (Err end) accepts (inl memory) = inr (inl memory)
 exported_err found exporting texts read (Err end) accepts (inr ends) =
-    inr (inr (files_read found.holds exporting.query texts read _ accepts ends))
+    inr (inr (files_read found.holds exporting.query texts read (λ framework answer certificate.
+    ExportEnds framework exporting.query answer certificate exporting.number end) accepts ends))
