@@ -1,22 +1,20 @@
--- The commands that words name, and what their words ask for by whether clap takes them.
-use Rattle.std.proofs.Common.{◌≡◌, ◌≢◌, ◌∙◌, ◌⊎◌, Bool, true, false, refl, sym, ap, inl, inr, List, [], ◌∷◌, Option}
-use Rattle.std.proofs.Common.{Some, None}
+-- The commands that words name, and the values that what they ask for is read from.
+use Rattle.std.proofs.Common.{◌≡◌, ◌≢◌, ◌∙◌, ◌⊎◌, Bool, true, false, refl, sym, ap, subst, inl, inr, List, [], ◌∷◌}
+use Rattle.std.proofs.Common.{Option, Some, None}
 use Rattle.std.specs.Prelude.{codes, if◌then◌else◌}
+use Rattle.std.specs.Option.{option_map}
 use Rattle.std.specs.Str.{bytes_eq}
 use Rattle.std.proofs.lemmas.Slice.Eq.{bytes_eq-Decides}
 use Rattle.clap.specs.Words.{Text, takes}
 use Rattle.argue_words.specs.declared.words.CommandName.{CommandName}
-use Rattle.argue_words.specs.Words.{ExportTexts, exporting, export_app, export_request, export_requested, export_value}
-use Rattle.argue_words.specs.Words.{LratTexts, verifying, lrat_app, lrat_request, lrat_requested, lrat_value}
-use Rattle.argue_words.specs.Words.{AfTexts, BenchTexts, CheckTexts, LiveTexts, NamesTexts, Request, SolveTexts}
-use Rattle.argue_words.specs.Words.{version, problems, solving, checking, living, benching, by_name, numbering}
-use Rattle.argue_words.specs.Words.{unknown, af_app, af_request, af_requested, af_value, bench_app, bench_request}
-use Rattle.argue_words.specs.Words.{bench_requested, bench_value, check_app, check_request, check_requested}
-use Rattle.argue_words.specs.Words.{check_value, command_named, live_app, live_request, live_requested, live_value}
-use Rattle.argue_words.specs.Words.{name_text, named, names_app, names_request, names_requested, names_value}
-use Rattle.argue_words.specs.Words.{other_requested, requested, requested_by, solve_app, solve_request}
-use Rattle.argue_words.specs.Words.{solve_requested, solve_value, words_are_problems}
 use Rattle.argue_words.specs.declared.words.CommandName.TheVariants as command
+use Rattle.argue_words.specs.Words.{AreValues, HasValues, Request, version, problems, solving, checking, living}
+use Rattle.argue_words.specs.Words.{benching, by_name, numbering, verifying, exporting, unknown, solve_values}
+use Rattle.argue_words.specs.Words.{check_values, live_values, bench_values, names_values, af_values, lrat_values}
+use Rattle.argue_words.specs.Words.{export_values, solve_request, check_request, live_request, bench_request}
+use Rattle.argue_words.specs.Words.{names_request, af_request, lrat_request, export_request, asked, asked_by}
+use Rattle.argue_words.specs.Words.{asked_if, command_app, command_named, name_text, named, other_requested, requested}
+use Rattle.argue_words.specs.Words.{requested_by, value_of, words_are_problems}
 
 -- ---- the names of commands
 
@@ -75,12 +73,10 @@ pub no_name_in : (words rest : List Text) (n : CommandName) → command_named wo
     → words ≢ name_text n ∷ rest
 no_name_in words rest n other are = other (ap command_named are ∙ name_named n)
 
--- ---- requests by the command that they belong to
+-- ---- requests by the values that they are read from
 
--- the command whose words have such a request, or that they name none
+-- the command whose options have the values of a request, where it is read from such
 abbrev pub request_name : Request → Option (Option CommandName)
-request_name version = None
-request_name problems = Some None
 request_name (solving texts) = Some None
 request_name (checking texts) = Some (Some command.Check)
 request_name (living texts) = Some (Some command.Live)
@@ -89,248 +85,199 @@ request_name (by_name texts) = Some (Some command.Names)
 request_name (numbering texts) = Some (Some command.Af)
 request_name (verifying texts) = Some (Some command.Lrat)
 request_name (exporting texts) = Some (Some command.Export)
-request_name unknown = None
+request_name _ = None
 
--- the request is unknown, or of this command
-abbrev pub IsOf : Option CommandName → Request → Type 0
-IsOf name request = (request ≡ unknown) ⊎ (request_name request ≡ Some name)
+abbrev pub request_values : Request → List (Text × Option Text)
+request_values (solving texts) = solve_values texts
+request_values (checking texts) = check_values texts
+request_values (living texts) = live_values texts
+request_values (benching texts) = bench_values texts
+request_values (by_name texts) = names_values texts
+request_values (numbering texts) = af_values texts
+request_values (verifying texts) = lrat_values texts
+request_values (exporting texts) = export_values texts
+request_values _ = []
 
--- the request is one that the words of a query have
-abbrev pub IsOfSolve : Request → Type 0
-IsOfSolve (solving texts) = Unit {0}
-IsOfSolve unknown = Unit {0}
-IsOfSolve _ = ⊥
+-- values ask for the request that has them
+pub asked_values : (value : Text → Option Text) (request : Request) → AreValues value (request_values request)
+    → option_map (λ name. asked name value) (request_name request) ≡ option_map (λ _. request) (request_name request)
+asked_values value version h = refl
+asked_values value problems h = refl
+asked_values value (solving texts) (a, (b, (c, (d, (e, _))))) = rw (a, b, c, d, e) refl
+asked_values value (checking texts) (a, (b, (c, (d, (e, _))))) = rw (a, b, c, d, e) refl
+asked_values value (living texts) (a, (b, (c, (d, _)))) = rw (a, b, c, d) refl
+asked_values value (benching texts) (a, (b, _)) = rw (a, b) refl
+asked_values value (by_name texts) (a, (b, (c, (d, (e, (f, _)))))) = rw (a, b, c, d, e, f) refl
+asked_values value (numbering texts) (a, (b, _)) = rw (a, b) refl
+asked_values value (verifying texts) (a, (b, _)) = rw (a, b) refl
+asked_values value (exporting texts) (a, (b, (c, (d, (e, (f, (g, _))))))) = rw (a, b, c, d, e, f, g) refl
+asked_values value unknown h = refl
 
-pub of_none_named : (request : Request) → IsOfSolve request → IsOf None request
-of_none_named (solving texts) h = inr refl
-of_none_named unknown h = inl refl
-of_none_named version h = absurd h
-of_none_named problems h = absurd h
-of_none_named (checking texts) h = absurd h
-of_none_named (living texts) h = absurd h
-of_none_named (benching texts) h = absurd h
-of_none_named (by_name texts) h = absurd h
-of_none_named (numbering texts) h = absurd h
-of_none_named (verifying texts) h = absurd h
-of_none_named (exporting texts) h = absurd h
+-- the request is unknown, or of this command and these values
+abbrev pub IsReadAs : Option CommandName → (Text → Option Text) → Request → Type 0
+IsReadAs name value request =
+    (request ≡ unknown) ⊎ ((request_name request ≡ Some name) × AreValues value (request_values request))
 
-pub solve_same : {s t : SolveTexts} → solving s ≡ solving t → s ≡ t
-solve_same e = cc
+module _ (value : Text → Option Text) where
+  solve_read : (task file : Option Text) → value (codes "task") ≡ task → value (codes "file") ≡ file
+      → IsReadAs None value (solve_request task file (value (codes "number")) (value (codes "budget"))
+      (value (codes "certificate")))
+  solve_read None file a b = inl refl
+  solve_read (Some task) None a b = inl refl
+  solve_read (Some task) (Some file) a b = inr (refl, (a, (b, (refl, (refl, (refl, tt))))))
 
-pub check_same : {s t : CheckTexts} → checking s ≡ checking t → s ≡ t
-check_same e = cc
+  check_read : (task file answer certificate : Option Text) → value (codes "task") ≡ task → value (codes "file") ≡ file
+      → value (codes "answer") ≡ answer → value (codes "certificate") ≡ certificate
+      → IsReadAs (Some command.Check) value (check_request task (value (codes "number")) file answer certificate)
+  check_read None file answer certificate a b c d = inl refl
+  check_read (Some task) None answer certificate a b c d = inl refl
+  check_read (Some task) (Some file) None certificate a b c d = inl refl
+  check_read (Some task) (Some file) (Some answer) None a b c d = inl refl
+  check_read (Some task) (Some file) (Some answer) (Some certificate) a b c d =
+      inr (refl, (a, (refl, (b, (c, (d, tt))))))
 
-pub live_same : {s t : LiveTexts} → living s ≡ living t → s ≡ t
-live_same e = cc
+  live_read : (file script : Option Text) → value (codes "file") ≡ file → value (codes "script") ≡ script
+      → IsReadAs (Some command.Live) value (live_request file script (value (codes "budget"))
+      (value (codes "certificate")))
+  live_read None script a b = inl refl
+  live_read (Some file) None a b = inl refl
+  live_read (Some file) (Some script) a b = inr (refl, (a, (b, (refl, (refl, tt)))))
 
-pub bench_same : {s t : BenchTexts} → benching s ≡ benching t → s ≡ t
-bench_same e = cc
+  bench_read : (arguments seed : Option Text) → value (codes "arguments") ≡ arguments → value (codes "seed") ≡ seed
+      → IsReadAs (Some command.Bench) value (bench_request arguments seed)
+  bench_read None seed a b = inl refl
+  bench_read (Some arguments) None a b = inl refl
+  bench_read (Some arguments) (Some seed) a b = inr (refl, (a, (b, tt)))
 
-pub names_same : {s t : NamesTexts} → by_name s ≡ by_name t → s ≡ t
-names_same e = cc
+  names_read : (task kind file : Option Text) → value (codes "task") ≡ task → value (codes "kind") ≡ kind
+      → value (codes "file") ≡ file → IsReadAs (Some command.Names) value (names_request task kind file
+      (value (codes "name")) (value (codes "budget")) (value (codes "certificate")))
+  names_read None kind file a b c = inl refl
+  names_read (Some task) None file a b c = inl refl
+  names_read (Some task) (Some kind) None a b c = inl refl
+  names_read (Some task) (Some kind) (Some file) a b c = inr (refl, (a, (b, (c, (refl, (refl, (refl, tt)))))))
 
-pub af_same : {s t : AfTexts} → numbering s ≡ numbering t → s ≡ t
-af_same e = cc
+  af_read : (kind file : Option Text) → value (codes "kind") ≡ kind → value (codes "file") ≡ file
+      → IsReadAs (Some command.Af) value (af_request kind file)
+  af_read None file a b = inl refl
+  af_read (Some kind) None a b = inl refl
+  af_read (Some kind) (Some file) a b = inr (refl, (a, (b, tt)))
 
-pub lrat_same : {s t : LratTexts} → verifying s ≡ verifying t → s ≡ t
-lrat_same e = cc
+  lrat_read : (cnf lrat : Option Text) → value (codes "cnf") ≡ cnf → value (codes "lrat") ≡ lrat
+      → IsReadAs (Some command.Lrat) value (lrat_request cnf lrat)
+  lrat_read None lrat a b = inl refl
+  lrat_read (Some cnf) None a b = inl refl
+  lrat_read (Some cnf) (Some lrat) a b = inr (refl, (a, (b, tt)))
 
-pub export_same : {s t : ExportTexts} → exporting s ≡ exporting t → s ≡ t
-export_same e = cc
+  export_read : (task file answer certificate refutation output : Option Text) → value (codes "task") ≡ task
+      → value (codes "file") ≡ file → value (codes "answer") ≡ answer → value (codes "certificate") ≡ certificate
+      → value (codes "refutation") ≡ refutation → value (codes "output") ≡ output
+      → IsReadAs (Some command.Export) value (export_request task (value (codes "number")) file answer certificate
+      refutation output)
+  export_read None file answer certificate refutation output a b c d e f = inl refl
+  export_read (Some task) None answer certificate refutation output a b c d e f = inl refl
+  export_read (Some task) (Some file) None certificate refutation output a b c d e f = inl refl
+  export_read (Some task) (Some file) (Some answer) None refutation output a b c d e f = inl refl
+  export_read (Some task) (Some file) (Some answer) (Some certificate) None output a b c d e f = inl refl
+  export_read (Some task) (Some file) (Some answer) (Some certificate) (Some refutation) None a b c d e f = inl refl
+  export_read (Some task) (Some file) (Some answer) (Some certificate) (Some refutation) (Some output) a b c d e f =
+      inr (refl, (e, (f, (a, (refl, (b, (c, (d, tt))))))))
+
+  -- what values ask for is unknown, or has these values
+  pub asked_read : (name : Option CommandName) → IsReadAs name value (asked name value)
+  asked_read None = solve_read _ _ refl refl
+  asked_read (Some command.Check) = check_read _ _ _ _ refl refl refl refl
+  asked_read (Some command.Live) = live_read _ _ refl refl
+  asked_read (Some command.Bench) = bench_read _ _ refl refl
+  asked_read (Some command.Names) = names_read _ _ _ refl refl refl
+  asked_read (Some command.Af) = af_read _ _ refl refl
+  asked_read (Some command.Lrat) = lrat_read _ _ refl refl
+  asked_read (Some command.Export) = export_read _ _ _ _ _ _ refl refl refl refl refl refl
 
 -- ---- words that clap takes or refuses
 
--- what the words of a query ask for, by whether clap takes them
-abbrev pub solve_if : Bool → List Text → Request
-solve_if taken words = if taken then solve_request (solve_value words (codes "task")) (solve_value words (codes
-    "file")) (solve_value words (codes "number")) (solve_value words (codes "budget")) (solve_value words (codes
-    "certificate")) else unknown
+-- the request is unknown, or what words of this command with its values ask for
+abbrev IsFromWords : Option CommandName → List Text → Request → Type 0
+IsFromWords name words request =
+    (request ≡ unknown) ⊎ ((request_name request ≡ Some name) × HasValues name words (request_values request))
 
--- what the words of a check ask for, by whether clap takes them
-abbrev pub check_if : Bool → List Text → Request
-check_if taken words = if taken then check_request (check_value words (codes "task")) (check_value words (codes
-    "number")) (check_value words (codes "file")) (check_value words (codes "answer")) (check_value words (codes
-    "certificate")) else unknown
+taken_has : (name : Option CommandName) (words : List Text) (request : Request) → takes (command_app name) words ≡ true
+    → IsReadAs name (value_of name words) request → IsFromWords name words request
+taken_has name words request taken (inl none) = inl none
+taken_has name words request taken (inr is) = inr (is.0, record { taken = taken; values_are = is.1 })
 
--- what the words of a script's run ask for, by whether clap takes them
-abbrev pub live_if : Bool → List Text → Request
-live_if taken words = if taken then live_request (live_value words (codes "file")) (live_value words (codes
-    "script")) (live_value words (codes "budget")) (live_value words (codes "certificate")) else unknown
+if_asked : (name : Option CommandName) (words : List Text) (b : Bool) → takes (command_app name) words ≡ b
+    → IsFromWords name words (asked_if name words b)
+if_asked name words true taken = taken_has name words _ taken (asked_read (value_of name words) name)
+if_asked name words false taken = inl refl
 
--- what the words of a large input's run ask for, by whether clap takes them
-abbrev pub bench_if : Bool → List Text → Request
-bench_if taken words = if taken then bench_request (bench_value words (codes "arguments")) (bench_value words (codes
-    "seed")) else unknown
+by_asked : (name : Option CommandName) (words : List Text) → IsFromWords name words (asked_by name words)
+unfolding asked_by
+by_asked name words = if_asked name words (takes (command_app name) words) refl
 
--- what the words of a query by names ask for, by whether clap takes them
-abbrev pub names_if : Bool → List Text → Request
-names_if taken words = if taken then names_request (names_value words (codes "task")) (names_value words (codes
-    "kind")) (names_value words (codes "file")) (names_value words (codes "name")) (names_value words (codes
-    "budget")) (names_value words (codes "certificate")) else unknown
+-- words that clap refuses ask for nothing
+pub refused_by : (name : Option CommandName) (words : List Text) → takes (command_app name) words ≡ false
+    → asked_by name words ≡ unknown
+unfolding asked_by
+refused_by name words refused = ap (asked_if name words) refused
 
--- what the words of a text with numbers ask for, by whether clap takes them
-abbrev pub af_if : Bool → List Text → Request
-af_if taken words = if taken then af_request (af_value words (codes "kind")) (af_value words (codes "file")) else
-    unknown
+some_same : {X : Type 0} {x y : X} → Some x ≡ Some y → x ≡ y
+some_same e = cc
 
--- what the words of a check of a refutation ask for, by whether clap takes them
-abbrev pub lrat_if : Bool → List Text → Request
-lrat_if taken words = if taken then lrat_request (lrat_value words (codes "cnf")) (lrat_value words (codes "lrat")) else
-    unknown
+-- words that give a command's options the values of a request ask for it
+pub asks_by : (name : Option CommandName) (words : List Text) (request : Request) → request_name request ≡ Some name
+    → HasValues name words (request_values request) → asked_by name words ≡ request
+unfolding asked_by
+asks_by name words request is has =
+    ap (asked_if name words) has.taken ∙ some_same (sym (ap (option_map (λ n. asked n (value_of name words))) is)
+    ∙ asked_values (value_of name words) request has.values_are ∙ ap (option_map (λ _. request)) is)
 
--- what the words for the texts of a refutation ask for, by whether clap takes them
-abbrev pub export_if : Bool → List Text → Request
-export_if taken words = if taken then export_request (export_value words (codes "task")) (export_value words (codes
-    "number")) (export_value words (codes "file")) (export_value words (codes "answer")) (export_value words (codes
-    "certificate")) (export_value words (codes "refutation")) (export_value words (codes "output")) else unknown
+of_asked : (n : Option CommandName) (words : List Text) (request : Request) (name : Option CommandName)
+    → IsFromWords n words request → request_name request ≡ Some name
+    → (n ≡ name) × HasValues n words (request_values request)
+of_asked n words request name (inl none) is = let e : None ≡ Some name = sym (ap request_name none) ∙ is in cc
+of_asked n words request name (inr h) is = (some_same (sym h.0 ∙ is), h.1)
 
-pub solve_is : (task file number budget certificate : Option Text)
-    → IsOfSolve (solve_request task file number budget certificate)
-solve_is None file number budget certificate = tt
-solve_is (Some task) None number budget certificate = tt
-solve_is (Some task) (Some file) number budget certificate = tt
+-- and only such words do
+pub asked_has : (n : Option CommandName) (words : List Text) (request : Request) (name : Option CommandName)
+    → asked_by n words ≡ request → request_name request ≡ Some name
+    → (n ≡ name) × HasValues n words (request_values request)
+asked_has n words request name asks =
+    of_asked n words request name (subst (IsFromWords n words) asks (by_asked n words))
 
-pub of_solve_if : (b : Bool) (words : List Text) → IsOfSolve (solve_if b words)
-of_solve_if true words = solve_is _ _ _ _ _
-of_solve_if false words = tt
+of_unread : (n : Option CommandName) (words : List Text) (request : Request) → request_name request ≡ None
+    → IsFromWords n words request → request ≡ unknown
+of_unread n words request none (inl is) = is
+of_unread n words request none (inr h) = let e : None ≡ Some n = sym none ∙ h.0 in cc
 
-pub of_solve : (words : List Text) → IsOfSolve (solve_requested words)
-unfolding solve_requested
-of_solve words = of_solve_if (takes solve_app words) words
+-- a command's words ask for nothing that no options have
+pub unread : (n : Option CommandName) (words : List Text) (request : Request) → request_name request ≡ None
+    → asked_by n words ≡ request → request ≡ unknown
+unread n words request none asks = of_unread n words request none (subst (IsFromWords n words) asks (by_asked n words))
 
-pub check_is : (task number file answer certificate : Option Text)
-    → IsOf (Some command.Check) (check_request task number file answer certificate)
-check_is None number file answer certificate = inl refl
-check_is (Some task) number None answer certificate = inl refl
-check_is (Some task) number (Some file) None certificate = inl refl
-check_is (Some task) number (Some file) (Some answer) None = inl refl
-check_is (Some task) number (Some file) (Some answer) (Some certificate) = inr refl
-
-pub of_check_if : (b : Bool) (words : List Text) → IsOf (Some command.Check) (check_if b words)
-of_check_if true words = check_is _ _ _ _ _
-of_check_if false words = inl refl
-
-pub of_check : (words : List Text) → IsOf (Some command.Check) (check_requested words)
-unfolding check_requested
-of_check words = of_check_if (takes check_app words) words
-
-pub live_is : (file script budget certificate : Option Text)
-    → IsOf (Some command.Live) (live_request file script budget certificate)
-live_is None script budget certificate = inl refl
-live_is (Some file) None budget certificate = inl refl
-live_is (Some file) (Some script) budget certificate = inr refl
-
-pub of_live_if : (b : Bool) (words : List Text) → IsOf (Some command.Live) (live_if b words)
-of_live_if true words = live_is _ _ _ _
-of_live_if false words = inl refl
-
-pub of_live : (words : List Text) → IsOf (Some command.Live) (live_requested words)
-unfolding live_requested
-of_live words = of_live_if (takes live_app words) words
-
-pub bench_is : (arguments seed : Option Text) → IsOf (Some command.Bench) (bench_request arguments seed)
-bench_is None seed = inl refl
-bench_is (Some arguments) None = inl refl
-bench_is (Some arguments) (Some seed) = inr refl
-
-pub of_bench_if : (b : Bool) (words : List Text) → IsOf (Some command.Bench) (bench_if b words)
-of_bench_if true words = bench_is _ _
-of_bench_if false words = inl refl
-
-pub of_bench : (words : List Text) → IsOf (Some command.Bench) (bench_requested words)
-unfolding bench_requested
-of_bench words = of_bench_if (takes bench_app words) words
-
-pub names_is : (task kind file name budget certificate : Option Text)
-    → IsOf (Some command.Names) (names_request task kind file name budget certificate)
-names_is None kind file name budget certificate = inl refl
-names_is (Some task) None file name budget certificate = inl refl
-names_is (Some task) (Some kind) None name budget certificate = inl refl
-names_is (Some task) (Some kind) (Some file) name budget certificate = inr refl
-
-pub of_names_if : (b : Bool) (words : List Text) → IsOf (Some command.Names) (names_if b words)
-of_names_if true words = names_is _ _ _ _ _ _
-of_names_if false words = inl refl
-
-pub of_names : (words : List Text) → IsOf (Some command.Names) (names_requested words)
-unfolding names_requested
-of_names words = of_names_if (takes names_app words) words
-
-pub af_is : (kind file : Option Text) → IsOf (Some command.Af) (af_request kind file)
-af_is None file = inl refl
-af_is (Some kind) None = inl refl
-af_is (Some kind) (Some file) = inr refl
-
-pub of_af_if : (b : Bool) (words : List Text) → IsOf (Some command.Af) (af_if b words)
-of_af_if true words = af_is _ _
-of_af_if false words = inl refl
-
-pub of_af : (words : List Text) → IsOf (Some command.Af) (af_requested words)
-unfolding af_requested
-of_af words = of_af_if (takes af_app words) words
-
-pub lrat_is : (cnf lrat : Option Text) → IsOf (Some command.Lrat) (lrat_request cnf lrat)
-lrat_is None lrat = inl refl
-lrat_is (Some cnf) None = inl refl
-lrat_is (Some cnf) (Some lrat) = inr refl
-
-pub of_lrat_if : (b : Bool) (words : List Text) → IsOf (Some command.Lrat) (lrat_if b words)
-of_lrat_if true words = lrat_is _ _
-of_lrat_if false words = inl refl
-
-pub of_lrat : (words : List Text) → IsOf (Some command.Lrat) (lrat_requested words)
-unfolding lrat_requested
-of_lrat words = of_lrat_if (takes lrat_app words) words
-
-pub export_is : (task number file answer certificate refutation output : Option Text)
-    → IsOf (Some command.Export) (export_request task number file answer certificate refutation output)
-export_is None number file answer certificate refutation output = inl refl
-export_is (Some task) number None answer certificate refutation output = inl refl
-export_is (Some task) number (Some file) None certificate refutation output = inl refl
-export_is (Some task) number (Some file) (Some answer) None refutation output = inl refl
-export_is (Some task) number (Some file) (Some answer) (Some certificate) None output = inl refl
-export_is (Some task) number (Some file) (Some answer) (Some certificate) (Some refutation) None = inl refl
-export_is (Some task) number (Some file) (Some answer) (Some certificate) (Some refutation) (Some output) = inr refl
-
-pub of_export_if : (b : Bool) (words : List Text) → IsOf (Some command.Export) (export_if b words)
-of_export_if true words = export_is _ _ _ _ _ _ _
-of_export_if false words = inl refl
-
-pub of_export : (words : List Text) → IsOf (Some command.Export) (export_requested words)
-unfolding export_requested
-of_export words = of_export_if (takes export_app words) words
+-- ---- all words
 
 -- what words that name no command ask for, by whether they are `--problems` alone
 abbrev pub other_if : Bool → List Text → Request
-other_if listed words = if listed then problems else solve_requested words
+other_if listed words = if listed then problems else asked_by None words
 
-pub of_other : (b : Bool) (words : List Text) → IsOf None (other_if b words)
-of_other true words = inr refl
-of_other false words = of_none_named (solve_requested words) (of_solve words)
+-- the words that a command's options stand in: those behind its name, or those of a query
+abbrev pub words_of : Option CommandName → List Text → List Text → List Text
+words_of (Some name) words more = more
+words_of None words more = words
 
-pub of_name : (name : Option CommandName) (words more : List Text) → IsOf name (requested_by name words more)
-of_name (Some command.Check) words more = of_check more
-of_name (Some command.Live) words more = of_live more
-of_name (Some command.Bench) words more = of_bench more
-of_name (Some command.Names) words more = of_names more
-of_name (Some command.Af) words more = of_af more
-of_name (Some command.Lrat) words more = of_lrat more
-of_name (Some command.Export) words more = of_export more
-of_name None words more = of_other (words_are_problems words) words
+other_has : (b : Bool) (words : List Text) (request : Request) (name : Option CommandName) → other_if b words ≡ request
+    → request_name request ≡ Some name → (None ≡ name) × HasValues None words (request_values request)
+other_has true words request name asks is = let e : None ≡ Some name = ap request_name asks ∙ is in cc
+other_has false words request name asks is = asked_has None words request name asks is
 
-pub some_same : {X : Type 0} {x y : X} → Some x ≡ Some y → x ≡ y
-some_same e = cc
-
-pub named_as : (request : Request) (m n : Option CommandName) → IsOf m request → request_name request ≡ Some n → m ≡ n
-named_as request m n (inl none) is = let e : None ≡ Some n = sym (ap request_name none) ∙ is in cc
-named_as request m n (inr of) is = some_same (sym of ∙ is)
-
--- words that ask for this have a first word that names its command, or none
-pub name_is : (word : Text) (more : List Text) (request : Request) (n : Option CommandName)
-    → requested (word ∷ more) ≡ request → request_name request ≡ Some n → named word ≡ n
-name_is word more request n is of =
-    named_as (requested (word ∷ more)) (named word) n (of_name (named word) (word ∷ more) more)
-    (ap request_name is ∙ of)
+-- words that ask for this have a first word that names its command, or none, and its values
+pub requested_has : (n : Option CommandName) (words more : List Text) (request : Request) (name : Option CommandName)
+    → requested_by n words more ≡ request → request_name request ≡ Some name
+    → (n ≡ name) × HasValues n (words_of n words more) (request_values request)
+requested_has (Some n) words more request name asks is = asked_has (Some n) more request name asks is
+requested_has None words more request name asks is =
+    other_has (words_are_problems words) words request name asks is
 
 -- what words with this name ask for
 pub requested_named : (words rest : List Text) (n : CommandName) → words ≡ name_text n ∷ rest

@@ -1,12 +1,13 @@
 -- What the words after the program's name ask for.
-use Rattle.std.specs.Prelude.{◌≡◌, ◌≢◌, ℕ, Bool, List, [], ◌∷◌, Option, Some, None, true, false, codes, if◌then◌else◌}
+use Rattle.std.specs.Prelude.{◌≡◌, ◌≢◌, ℕ, Bool, List, [], ◌∷◌, Option, Some, None, true, false, codes, fold}
+use Rattle.std.specs.Prelude.{if◌then◌else◌}
 use Rattle.std.specs.Option.{option_map}
 use Rattle.std.specs.Str.{bytes_eq}
-use Rattle.clap.specs.Words.{App, Rule, Text, first_of, matches_of, new_app, new_rule, takes}
-use Rattle.clap.specs.Words.{with_rule}
+use Rattle.clap.specs.Words.{App, Rule, Text, first_of, matches_of, new_app, new_rule, takes, with_rule}
 use Rattle.clap.specs.declared.builder.ArgAction.TheVariants.{Set}
 use Rattle.argue_words.specs.declared.words.Command.{Command}
-use Rattle.argue_words.specs.declared.words.Command.TheVariants.{Version, Problems, Solve, Check, Live, Bench, Names, Af, Lrat}
+use Rattle.argue_words.specs.declared.words.Command.TheVariants.{Version, Problems, Solve, Check, Live, Bench}
+use Rattle.argue_words.specs.declared.words.Command.TheVariants.{Names, Af, Lrat}
 use Rattle.argue_words.specs.declared.words.Command.TheVariants.{Export, Unknown}
 use Rattle.argue_words.specs.declared.words.CommandName.{CommandName}
 use Rattle.argue_words.specs.declared.words.CommandName.TheVariants as command
@@ -27,64 +28,12 @@ option_of id letter required = record (new_rule id) {
   required = required;
 }
 
--- one that is required
+-- one that is required, and one that may be left out
 abbrev pub value_option : Text → ℕ → Rule
 value_option id letter = option_of id letter true
 
--- a command with no option, whose words begin after the program's name
-abbrev pub bare_app : App
-bare_app = record (new_app (codes "argue")) {
-  top = record (new_app (codes "argue")).top { no_binary_name = true };
-}
-
--- the command of `-p TASK` and `-f FILE`
-unfoldable pub task_app : App
-task_app = with_rule (with_rule bare_app (value_option (codes "task") 112)) (value_option (codes "file") 102)
-
--- the command of a query: besides these, `-a N`, `-b BUDGET` and `-c CERT`, each of which may be left out
-unfoldable pub solve_app : App
-solve_app = with_rule (with_rule (with_rule task_app (option_of (codes "number") 97 false))
-    (option_of (codes "budget") 98 false)) (option_of (codes "certificate") 99 false)
-
--- the command of `-p TASK`, `-f FILE`, `-r ANSWER` and `-c CERT`, and `-a N`, which may be left out
-unfoldable pub check_app : App
-check_app = with_rule (with_rule (with_rule task_app (value_option (codes "answer") 114))
-    (value_option (codes "certificate") 99)) (option_of (codes "number") 97 false)
-
--- the command of `-f FILE` and `-s SCRIPT`
-unfoldable pub script_app : App
-script_app = with_rule (with_rule bare_app (value_option (codes "file") 102)) (value_option (codes "script") 115)
-
--- the command of a script: besides these, `-b BUDGET` and `-c CERT`, each of which may be left out
-unfoldable pub live_app : App
-live_app = with_rule (with_rule script_app (option_of (codes "budget") 98 false))
-    (option_of (codes "certificate") 99 false)
-
--- the command of `-n N` and `-x SEED`
-unfoldable pub bench_app : App
-bench_app = with_rule (with_rule bare_app (value_option (codes "arguments") 110)) (value_option (codes "seed") 120)
-
--- the command of `-p TASK`, `-f FILE` and `-k KIND`
-unfoldable pub named_app : App
-named_app = with_rule task_app (value_option (codes "kind") 107)
-
--- the command of a query by names: besides these, `-a NAME`, `-b BUDGET` and `-c CERT`, each of which may be left out
-unfoldable pub names_app : App
-names_app = with_rule (with_rule (with_rule named_app (option_of (codes "name") 97 false))
-    (option_of (codes "budget") 98 false)) (option_of (codes "certificate") 99 false)
-
--- the command of `-k KIND` and `-f FILE`
-unfoldable pub af_app : App
-af_app = with_rule (with_rule bare_app (value_option (codes "file") 102)) (value_option (codes "kind") 107)
-
--- the command of `-d CNF` and `-l LRAT`
-unfoldable pub lrat_app : App
-lrat_app = with_rule (with_rule bare_app (value_option (codes "cnf") 100)) (value_option (codes "lrat") 108)
-
--- the command of a check's options and besides these `-i REFUTATION` and `-o OUTPUT`
-unfoldable pub export_app : App
-export_app = with_rule (with_rule check_app (value_option (codes "refutation") 105))
-    (value_option (codes "output") 111)
+abbrev pub free_option : Text → ℕ → Rule
+free_option id letter = option_of id letter false
 
 -- ---- the names of commands
 
@@ -119,6 +68,62 @@ abbrev pub words_are_problems : List Text → Bool
 words_are_problems (word ∷ []) = bytes_eq word (codes "--problems")
 words_are_problems _ = false
 
+-- ---- the options of commands
+
+-- the options of a command, or those of a query, which has no name
+unfoldable pub options_of : Option CommandName → List Rule
+options_of None = value_option (codes "task") 112 ∷ value_option (codes "file") 102 ∷ free_option (codes "number") 97
+    ∷ free_option (codes "budget") 98 ∷ free_option (codes "certificate") 99 ∷ []
+options_of (Some command.Check) = value_option (codes "task") 112 ∷ value_option (codes "file") 102
+    ∷ value_option (codes "answer") 114 ∷ value_option (codes "certificate") 99 ∷ free_option (codes "number") 97 ∷ []
+options_of (Some command.Live) = value_option (codes "file") 102 ∷ value_option (codes "script") 115
+    ∷ free_option (codes "budget") 98 ∷ free_option (codes "certificate") 99 ∷ []
+options_of (Some command.Bench) = value_option (codes "arguments") 110 ∷ value_option (codes "seed") 120 ∷ []
+options_of (Some command.Names) = value_option (codes "task") 112 ∷ value_option (codes "file") 102
+    ∷ value_option (codes "kind") 107 ∷ free_option (codes "name") 97 ∷ free_option (codes "budget") 98
+    ∷ free_option (codes "certificate") 99 ∷ []
+options_of (Some command.Af) = value_option (codes "file") 102 ∷ value_option (codes "kind") 107 ∷ []
+options_of (Some command.Lrat) = value_option (codes "cnf") 100 ∷ value_option (codes "lrat") 108 ∷ []
+options_of (Some command.Export) = value_option (codes "task") 112 ∷ value_option (codes "file") 102
+    ∷ value_option (codes "answer") 114 ∷ value_option (codes "certificate") 99 ∷ free_option (codes "number") 97
+    ∷ value_option (codes "refutation") 105 ∷ value_option (codes "output") 111 ∷ []
+
+-- a command with no option, whose words begin after the program's name
+abbrev pub bare_app : App
+bare_app = record (new_app (codes "argue")) {
+  top = record (new_app (codes "argue")).top { no_binary_name = true };
+}
+
+-- the command of these options, in any order
+unfoldable pub command_app : Option CommandName → App
+command_app name = fold with_rule bare_app (options_of name)
+
+-- the command of a query
+abbrev pub solve_app : App
+solve_app = command_app None
+
+-- ---- the values of options
+
+-- the value that clap matches on a command's words for the option of this id
+abbrev pub value_of : Option CommandName → List Text → Text → Option Text
+value_of name words id = first_of id (matches_of (command_app name) words)
+
+-- these options, by their ids, have these values, or none where they may be left out and are
+abbrev pub AreValues : (Text → Option Text) → List (Text × Option Text) → Type 0
+AreValues value [] = Unit {0}
+AreValues value (option ∷ more) = (value option.0 ≡ option.1) × AreValues value more
+
+-- clap takes the words for the command, and they give its options these values
+pub record HasValues (name : Option CommandName) (words : List Text) (values : List (Text × Option Text)) : Type 0 where
+  pub taken : takes (command_app name) words ≡ true
+  pub values_are : AreValues (value_of name words) values
+
+-- the words are the command's name, and words that give its options these values
+pub record IsCommand (name : CommandName) (words : List Text) (values : List (Text × Option Text)) : Type 0 where
+  pub rest : List Text
+  pub words_are : words ≡ name_text name ∷ rest
+  pub has : HasValues (Some name) rest values
+
 -- ---- queries
 
 -- the texts of a query: a task, the name of the framework's file, and a number, a budget and the name of a file for the
@@ -130,24 +135,15 @@ pub record SolveTexts : Type 0 where
   pub budget : Option Text
   pub certificate : Option Text
 
--- the value that clap matches on the words of a query for the option of this id
-abbrev pub solve_value : List Text → Text → Option Text
-solve_value words id = first_of id (matches_of solve_app words)
-
--- the words, which clap takes, have these texts
-pub record HasSolveTexts (words : List Text) (texts : SolveTexts) : Type 0 where
-  pub taken : takes solve_app words ≡ true
-  pub task : solve_value words (codes "task") ≡ Some texts.task
-  pub file : solve_value words (codes "file") ≡ Some texts.file
-  pub number : solve_value words (codes "number") ≡ texts.number
-  pub budget : solve_value words (codes "budget") ≡ texts.budget
-  pub certificate : solve_value words (codes "certificate") ≡ texts.certificate
+abbrev pub solve_values : SolveTexts → List (Text × Option Text)
+solve_values texts = (codes "task", Some texts.task) ∷ (codes "file", Some texts.file) ∷ (codes "number", texts.number)
+    ∷ (codes "budget", texts.budget) ∷ (codes "certificate", texts.certificate) ∷ []
 
 -- the words name no command, and ask a query with these texts
 pub record IsSolveQuery (words : List Text) (texts : SolveTexts) : Type 0 where
   pub no_name : command_named words ≡ None
   pub no_list : words_are_problems words ≡ false
-  pub has : HasSolveTexts words texts
+  pub has : HasValues None words (solve_values texts)
 
 -- ---- checks
 
@@ -159,24 +155,13 @@ pub record CheckTexts : Type 0 where
   pub answer : Text
   pub certificate : Text
 
--- the value of an option of `check`
-abbrev pub check_value : List Text → Text → Option Text
-check_value words id = first_of id (matches_of check_app words)
-
--- the words behind the command's name, which clap takes, have these texts
-pub record HasCheckTexts (words : List Text) (texts : CheckTexts) : Type 0 where
-  pub taken : takes check_app words ≡ true
-  pub task : check_value words (codes "task") ≡ Some texts.task
-  pub number : check_value words (codes "number") ≡ texts.number
-  pub file : check_value words (codes "file") ≡ Some texts.file
-  pub answer : check_value words (codes "answer") ≡ Some texts.answer
-  pub certificate : check_value words (codes "certificate") ≡ Some texts.certificate
+abbrev pub check_values : CheckTexts → List (Text × Option Text)
+check_values texts = (codes "task", Some texts.task) ∷ (codes "number", texts.number) ∷ (codes "file", Some texts.file)
+    ∷ (codes "answer", Some texts.answer) ∷ (codes "certificate", Some texts.certificate) ∷ []
 
 -- the words ask for a check with these texts
-pub record IsCheckQuery (words : List Text) (texts : CheckTexts) : Type 0 where
-  pub rest : List Text
-  pub words_are : words ≡ codes "check" ∷ rest
-  pub has : HasCheckTexts rest texts
+abbrev pub IsCheckQuery : List Text → CheckTexts → Type 0
+IsCheckQuery words texts = IsCommand command.Check words (check_values texts)
 
 -- ---- scripts
 
@@ -188,23 +173,13 @@ pub record LiveTexts : Type 0 where
   pub budget : Option Text
   pub certificate : Option Text
 
--- the value of an option of `live`
-abbrev pub live_value : List Text → Text → Option Text
-live_value words id = first_of id (matches_of live_app words)
-
--- the words behind the command's name, which clap takes, have these texts
-pub record HasLiveTexts (words : List Text) (texts : LiveTexts) : Type 0 where
-  pub taken : takes live_app words ≡ true
-  pub file : live_value words (codes "file") ≡ Some texts.file
-  pub script : live_value words (codes "script") ≡ Some texts.script
-  pub budget : live_value words (codes "budget") ≡ texts.budget
-  pub certificate : live_value words (codes "certificate") ≡ texts.certificate
+abbrev pub live_values : LiveTexts → List (Text × Option Text)
+live_values texts = (codes "file", Some texts.file) ∷ (codes "script", Some texts.script)
+    ∷ (codes "budget", texts.budget) ∷ (codes "certificate", texts.certificate) ∷ []
 
 -- the words ask for a script's run with these texts
-pub record IsLiveQuery (words : List Text) (texts : LiveTexts) : Type 0 where
-  pub rest : List Text
-  pub words_are : words ≡ codes "live" ∷ rest
-  pub has : HasLiveTexts rest texts
+abbrev pub IsLiveQuery : List Text → LiveTexts → Type 0
+IsLiveQuery words texts = IsCommand command.Live words (live_values texts)
 
 -- ---- large inputs
 
@@ -213,21 +188,12 @@ pub record BenchTexts : Type 0 where
   pub arguments : Text
   pub seed : Text
 
--- the value of an option of `bench`
-abbrev pub bench_value : List Text → Text → Option Text
-bench_value words id = first_of id (matches_of bench_app words)
-
--- the words behind the command's name, which clap takes, have these texts
-pub record HasBenchTexts (words : List Text) (texts : BenchTexts) : Type 0 where
-  pub taken : takes bench_app words ≡ true
-  pub arguments : bench_value words (codes "arguments") ≡ Some texts.arguments
-  pub seed : bench_value words (codes "seed") ≡ Some texts.seed
+abbrev pub bench_values : BenchTexts → List (Text × Option Text)
+bench_values texts = (codes "arguments", Some texts.arguments) ∷ (codes "seed", Some texts.seed) ∷ []
 
 -- the words ask for the run of a large input with these texts
-pub record IsBenchQuery (words : List Text) (texts : BenchTexts) : Type 0 where
-  pub rest : List Text
-  pub words_are : words ≡ codes "bench" ∷ rest
-  pub has : HasBenchTexts rest texts
+abbrev pub IsBenchQuery : List Text → BenchTexts → Type 0
+IsBenchQuery words texts = IsCommand command.Bench words (bench_values texts)
 
 -- ---- queries by names
 
@@ -241,25 +207,13 @@ pub record NamesTexts : Type 0 where
   pub budget : Option Text
   pub certificate : Option Text
 
--- the value of an option of `names`
-abbrev pub names_value : List Text → Text → Option Text
-names_value words id = first_of id (matches_of names_app words)
-
--- the words behind the command's name, which clap takes, have these texts
-pub record HasNamesTexts (words : List Text) (texts : NamesTexts) : Type 0 where
-  pub taken : takes names_app words ≡ true
-  pub task : names_value words (codes "task") ≡ Some texts.task
-  pub kind : names_value words (codes "kind") ≡ Some texts.kind
-  pub file : names_value words (codes "file") ≡ Some texts.file
-  pub name : names_value words (codes "name") ≡ texts.name
-  pub budget : names_value words (codes "budget") ≡ texts.budget
-  pub certificate : names_value words (codes "certificate") ≡ texts.certificate
+abbrev pub names_values : NamesTexts → List (Text × Option Text)
+names_values texts = (codes "task", Some texts.task) ∷ (codes "kind", Some texts.kind) ∷ (codes "file", Some texts.file)
+    ∷ (codes "name", texts.name) ∷ (codes "budget", texts.budget) ∷ (codes "certificate", texts.certificate) ∷ []
 
 -- the words ask a query by names with these texts
-pub record IsNamesQuery (words : List Text) (texts : NamesTexts) : Type 0 where
-  pub rest : List Text
-  pub words_are : words ≡ codes "names" ∷ rest
-  pub has : HasNamesTexts rest texts
+abbrev pub IsNamesQuery : List Text → NamesTexts → Type 0
+IsNamesQuery words texts = IsCommand command.Names words (names_values texts)
 
 -- ---- texts with numbers
 
@@ -268,21 +222,12 @@ pub record AfTexts : Type 0 where
   pub kind : Text
   pub file : Text
 
--- the value of an option of `af`
-abbrev pub af_value : List Text → Text → Option Text
-af_value words id = first_of id (matches_of af_app words)
-
--- the words behind the command's name, which clap takes, have these texts
-pub record HasAfTexts (words : List Text) (texts : AfTexts) : Type 0 where
-  pub taken : takes af_app words ≡ true
-  pub kind : af_value words (codes "kind") ≡ Some texts.kind
-  pub file : af_value words (codes "file") ≡ Some texts.file
+abbrev pub af_values : AfTexts → List (Text × Option Text)
+af_values texts = (codes "kind", Some texts.kind) ∷ (codes "file", Some texts.file) ∷ []
 
 -- the words ask for a text with numbers, with these texts
-pub record IsAfQuery (words : List Text) (texts : AfTexts) : Type 0 where
-  pub rest : List Text
-  pub words_are : words ≡ codes "af" ∷ rest
-  pub has : HasAfTexts rest texts
+abbrev pub IsAfQuery : List Text → AfTexts → Type 0
+IsAfQuery words texts = IsCommand command.Af words (af_values texts)
 
 -- ---- checks of refutations
 
@@ -291,21 +236,12 @@ pub record LratTexts : Type 0 where
   pub cnf : Text
   pub lrat : Text
 
--- the value of an option of `lrat`
-abbrev pub lrat_value : List Text → Text → Option Text
-lrat_value words id = first_of id (matches_of lrat_app words)
-
--- the words behind the command's name, which clap takes, have these texts
-pub record HasLratTexts (words : List Text) (texts : LratTexts) : Type 0 where
-  pub taken : takes lrat_app words ≡ true
-  pub cnf : lrat_value words (codes "cnf") ≡ Some texts.cnf
-  pub lrat : lrat_value words (codes "lrat") ≡ Some texts.lrat
+abbrev pub lrat_values : LratTexts → List (Text × Option Text)
+lrat_values texts = (codes "cnf", Some texts.cnf) ∷ (codes "lrat", Some texts.lrat) ∷ []
 
 -- the words ask for a check of a refutation, with these texts
-pub record IsLratQuery (words : List Text) (texts : LratTexts) : Type 0 where
-  pub rest : List Text
-  pub words_are : words ≡ codes "lrat" ∷ rest
-  pub has : HasLratTexts rest texts
+abbrev pub IsLratQuery : List Text → LratTexts → Type 0
+IsLratQuery words texts = IsCommand command.Lrat words (lrat_values texts)
 
 -- ---- refutations as texts
 
@@ -316,26 +252,13 @@ pub record ExportTexts : Type 0 where
   pub refutation : Text
   pub output : Text
 
--- the value of an option of `export`
-abbrev pub export_value : List Text → Text → Option Text
-export_value words id = first_of id (matches_of export_app words)
-
--- the words behind the command's name, which clap takes, have these texts
-pub record HasExportTexts (words : List Text) (texts : ExportTexts) : Type 0 where
-  pub taken : takes export_app words ≡ true
-  pub task : export_value words (codes "task") ≡ Some texts.check.task
-  pub number : export_value words (codes "number") ≡ texts.check.number
-  pub file : export_value words (codes "file") ≡ Some texts.check.file
-  pub answer : export_value words (codes "answer") ≡ Some texts.check.answer
-  pub certificate : export_value words (codes "certificate") ≡ Some texts.check.certificate
-  pub refutation : export_value words (codes "refutation") ≡ Some texts.refutation
-  pub output : export_value words (codes "output") ≡ Some texts.output
+abbrev pub export_values : ExportTexts → List (Text × Option Text)
+export_values texts = (codes "refutation", Some texts.refutation) ∷ (codes "output", Some texts.output)
+    ∷ check_values texts.check
 
 -- the words ask for the texts of a refutation, with these texts
-pub record IsExportQuery (words : List Text) (texts : ExportTexts) : Type 0 where
-  pub rest : List Text
-  pub words_are : words ≡ codes "export" ∷ rest
-  pub has : HasExportTexts rest texts
+abbrev pub IsExportQuery : List Text → ExportTexts → Type 0
+IsExportQuery words texts = IsCommand command.Export words (export_values texts)
 
 -- ---- all words
 
@@ -436,71 +359,37 @@ export_request (Some task) number (Some file) (Some answer) (Some certificate) (
     })
 export_request _ _ _ _ _ _ _ = unknown
 
--- what the words behind `check` ask for
-unfoldable pub check_requested : List Text → Request
-check_requested words =
-    if takes check_app words then check_request (check_value words (codes "task")) (check_value words (codes "number"))
-    (check_value words (codes "file")) (check_value words (codes "answer")) (check_value words (codes "certificate"))
-    else unknown
+-- what the values of a command's options ask for, and those of a query's
+abbrev pub asked : Option CommandName → (Text → Option Text) → Request
+asked None value = solve_request (value (codes "task")) (value (codes "file")) (value (codes "number"))
+    (value (codes "budget")) (value (codes "certificate"))
+asked (Some command.Check) value = check_request (value (codes "task")) (value (codes "number")) (value (codes "file"))
+    (value (codes "answer")) (value (codes "certificate"))
+asked (Some command.Live) value = live_request (value (codes "file")) (value (codes "script")) (value (codes "budget"))
+    (value (codes "certificate"))
+asked (Some command.Bench) value = bench_request (value (codes "arguments")) (value (codes "seed"))
+asked (Some command.Names) value = names_request (value (codes "task")) (value (codes "kind")) (value (codes "file"))
+    (value (codes "name")) (value (codes "budget")) (value (codes "certificate"))
+asked (Some command.Af) value = af_request (value (codes "kind")) (value (codes "file"))
+asked (Some command.Lrat) value = lrat_request (value (codes "cnf")) (value (codes "lrat"))
+asked (Some command.Export) value = export_request (value (codes "task")) (value (codes "number"))
+    (value (codes "file")) (value (codes "answer")) (value (codes "certificate")) (value (codes "refutation")) (value (codes "output"))
 
--- what the words behind `live` ask for
-unfoldable pub live_requested : List Text → Request
-live_requested words =
-    if takes live_app words then live_request (live_value words (codes "file")) (live_value words (codes "script"))
-    (live_value words (codes "budget")) (live_value words (codes "certificate")) else unknown
+-- what a command's words ask for, by whether clap takes them
+abbrev pub asked_if : Option CommandName → List Text → Bool → Request
+asked_if name words taken = if taken then asked name (value_of name words) else unknown
 
--- what the words behind `bench` ask for
-unfoldable pub bench_requested : List Text → Request
-bench_requested words =
-    if takes bench_app words then bench_request (bench_value words (codes "arguments"))
-    (bench_value words (codes "seed")) else unknown
-
--- what the words behind `names` ask for
-unfoldable pub names_requested : List Text → Request
-names_requested words =
-    if takes names_app words then names_request (names_value words (codes "task")) (names_value words (codes "kind"))
-    (names_value words (codes "file")) (names_value words (codes "name")) (names_value words (codes "budget"))
-    (names_value words (codes "certificate")) else unknown
-
--- what the words behind `af` ask for
-unfoldable pub af_requested : List Text → Request
-af_requested words =
-    if takes af_app words then af_request (af_value words (codes "kind")) (af_value words (codes "file")) else unknown
-
--- what the words behind `lrat` ask for
-unfoldable pub lrat_requested : List Text → Request
-lrat_requested words =
-    if takes lrat_app words then lrat_request (lrat_value words (codes "cnf")) (lrat_value words (codes "lrat"))
-    else unknown
-
--- what the words behind `export` ask for
-unfoldable pub export_requested : List Text → Request
-export_requested words =
-    if takes export_app words then export_request (export_value words (codes "task"))
-    (export_value words (codes "number")) (export_value words (codes "file")) (export_value words (codes "answer"))
-    (export_value words (codes "certificate")) (export_value words (codes "refutation"))
-    (export_value words (codes "output")) else unknown
-
--- what the words of a query ask for
-unfoldable pub solve_requested : List Text → Request
-solve_requested words =
-    if takes solve_app words then solve_request (solve_value words (codes "task")) (solve_value words (codes "file"))
-    (solve_value words (codes "number")) (solve_value words (codes "budget")) (solve_value words (codes "certificate"))
-    else unknown
+-- what the words behind a command's name ask for, and those of a query
+unfoldable pub asked_by : Option CommandName → List Text → Request
+asked_by name words = asked_if name words (takes (command_app name) words)
 
 -- what words that name no command ask for
 abbrev pub other_requested : List Text → Request
-other_requested words = if words_are_problems words then problems else solve_requested words
+other_requested words = if words_are_problems words then problems else asked_by None words
 
 -- what words ask for, by the command that the first of them names and by the words behind it
 abbrev pub requested_by : Option CommandName → List Text → List Text → Request
-requested_by (Some command.Check) words more = check_requested more
-requested_by (Some command.Live) words more = live_requested more
-requested_by (Some command.Bench) words more = bench_requested more
-requested_by (Some command.Names) words more = names_requested more
-requested_by (Some command.Af) words more = af_requested more
-requested_by (Some command.Lrat) words more = lrat_requested more
-requested_by (Some command.Export) words more = export_requested more
+requested_by (Some name) words more = asked_by (Some name) more
 requested_by None words more = other_requested words
 
 -- what the words ask for: the version where there is none, what their command says, or else the list of tasks or a query

@@ -1,15 +1,83 @@
-//! The command lines, as clap takes them.
+//! The options of the commands, and the command lines as clap takes them.
 
-ghost use Rattle.std.specs.Prelude.{◌≡◌, IfOk, codes, false};
+ghost use Rattle.std.specs.Prelude.{◌≡◌, IfOk, false, map};
 ghost use Rattle.clap.specs.Words.{app_of, rule_of, with_rule};
-ghost use Rattle.argue_words.specs.Words.{af_app, bare_app, bench_app, check_app, export_app, live_app, lrat_app};
-ghost use Rattle.argue_words.specs.Words.{named_app, names_app, option_of, script_app, solve_app, task_app};
+ghost use Rattle.argue_words.specs.Words.{bare_app, command_app, option_of, options_of};
 
+use crate::words::CommandName;
 use clap::{Arg, ArgAction, Command};
 use std::alloc::{AllocError, Global};
 
-// An option of one value, written `-s VALUE`.
-fn value_arg<'a>(alloc: Global, id: &'a str, short: char, required: bool) -> Arg<'a>
+/// An option of one value: its id, its letter, and whether it is needed.
+type Row = (&'static str, char, bool);
+
+const SOLVE: &[Row] = &[
+    ("task", 'p', true),
+    ("file", 'f', true),
+    ("number", 'a', false),
+    ("budget", 'b', false),
+    ("certificate", 'c', false),
+];
+
+const CHECK: &[Row] = &[
+    ("task", 'p', true),
+    ("file", 'f', true),
+    ("answer", 'r', true),
+    ("certificate", 'c', true),
+    ("number", 'a', false),
+];
+
+const LIVE: &[Row] = &[
+    ("file", 'f', true),
+    ("script", 's', true),
+    ("budget", 'b', false),
+    ("certificate", 'c', false),
+];
+
+const BENCH: &[Row] = &[("arguments", 'n', true), ("seed", 'x', true)];
+
+const NAMES: &[Row] = &[
+    ("task", 'p', true),
+    ("file", 'f', true),
+    ("kind", 'k', true),
+    ("name", 'a', false),
+    ("budget", 'b', false),
+    ("certificate", 'c', false),
+];
+
+const AF: &[Row] = &[("file", 'f', true), ("kind", 'k', true)];
+
+const LRAT: &[Row] = &[("cnf", 'd', true), ("lrat", 'l', true)];
+
+const EXPORT: &[Row] = &[
+    ("task", 'p', true),
+    ("file", 'f', true),
+    ("answer", 'r', true),
+    ("certificate", 'c', true),
+    ("number", 'a', false),
+    ("refutation", 'i', true),
+    ("output", 'o', true),
+];
+
+/// The options of a command, or of a query, which has no name.
+#[tactic(auto, unfolding(crate::specs::Words::options_of))]
+fn rows_of(name: Option<CommandName>) -> &'static [Row]
+    ensures { map (λ row. option_of row.0.now row.1 row.2) result.now ≡ options_of name }
+{
+    match name {
+        None => SOLVE,
+        Some(CommandName::Check) => CHECK,
+        Some(CommandName::Live) => LIVE,
+        Some(CommandName::Bench) => BENCH,
+        Some(CommandName::Names) => NAMES,
+        Some(CommandName::Af) => AF,
+        Some(CommandName::Lrat) => LRAT,
+        Some(CommandName::Export) => EXPORT,
+    }
+}
+
+/// An option of one value, written `-s VALUE`.
+fn value_arg<'a>(alloc: Global, id: &'static str, short: char, required: bool) -> Arg<'a>
     ensures rule { rule_of result ≡ option_of id.entry.now short required }
     ensures local { result.global ≡ false }
 {
@@ -32,111 +100,17 @@ fn bare_command<'a>(alloc: Global) -> Command<'a>
     Command::new(alloc, "argue").no_binary_name(true)
 }
 
-/// The command of `-p TASK` and `-f FILE`, whose words begin after the program's name.
-#[tactic(auto, unfolding(crate::specs::Words::task_app))]
-fn task_command<'a>(alloc: Global) -> Result<Command<'a>, AllocError>
-    ensures { IfOk result (λ c. app_of c ≡ task_app) }
+/// The command of a name, or that of a query, whose words begin after the name.
+pub(crate) fn command_of<'a>(
+    alloc: Global,
+    name: Option<CommandName>,
+) -> Result<Command<'a>, AllocError>
+    ensures { IfOk result (λ c. app_of c ≡ command_app name) }
 {
-    let command = with_arg(bare_command(alloc), value_arg(alloc, "task", 'p', true))?;
-    with_arg(command, value_arg(alloc, "file", 'f', true))
-}
-
-/// The command of `-p TASK`, `-f FILE` and perhaps `-a N`, `-b BUDGET` and `-c CERT`, whose words begin after the program's
-/// name.
-pub(crate) fn solve_command<'a>(alloc: Global) -> Result<Command<'a>, AllocError>
-    ensures { IfOk result (λ c. app_of c ≡ solve_app) }
-{
-    let command = task_command(alloc)?;
-    let command = with_arg(command, value_arg(alloc, "number", 'a', false))?;
-    let command = with_arg(command, value_arg(alloc, "budget", 'b', false))?;
-    with_arg(command, value_arg(alloc, "certificate", 'c', false))
-}
-
-/// The command of `-p TASK`, `-f FILE`, `-r ANSWER`, `-c CERT` and perhaps `-a N`, whose words begin after the name of the
-/// command.
-pub(crate) fn check_command<'a>(alloc: Global) -> Result<Command<'a>, AllocError>
-    ensures { IfOk result (λ c. app_of c ≡ check_app) }
-{
-    let command = task_command(alloc)?;
-    let command = with_arg(command, value_arg(alloc, "answer", 'r', true))?;
-    let command = with_arg(command, value_arg(alloc, "certificate", 'c', true))?;
-    with_arg(command, value_arg(alloc, "number", 'a', false))
-}
-
-/// The command of `-f FILE` and `-s SCRIPT`, whose words begin after the name of the command.
-#[tactic(auto, unfolding(crate::specs::Words::script_app))]
-fn script_command<'a>(alloc: Global) -> Result<Command<'a>, AllocError>
-    ensures { IfOk result (λ c. app_of c ≡ script_app) }
-{
-    let command = with_arg(bare_command(alloc), value_arg(alloc, "file", 'f', true))?;
-    with_arg(command, value_arg(alloc, "script", 's', true))
-}
-
-/// The command of `-f FILE`, `-s SCRIPT` and perhaps `-b BUDGET` and `-c CERT`, whose words begin after the name of the
-/// command.
-pub(crate) fn live_command<'a>(alloc: Global) -> Result<Command<'a>, AllocError>
-    ensures { IfOk result (λ c. app_of c ≡ live_app) }
-{
-    let command = script_command(alloc)?;
-    let command = with_arg(command, value_arg(alloc, "budget", 'b', false))?;
-    with_arg(command, value_arg(alloc, "certificate", 'c', false))
-}
-
-/// The command of `-n N` and `-x SEED`, whose words begin after the name of the command.
-#[tactic(auto, unfolding(crate::specs::Words::bench_app))]
-pub(crate) fn bench_command<'a>(alloc: Global) -> Result<Command<'a>, AllocError>
-    ensures { IfOk result (λ c. app_of c ≡ bench_app) }
-{
-    let command = with_arg(
-        bare_command(alloc),
-        value_arg(alloc, "arguments", 'n', true),
-    )?;
-    with_arg(command, value_arg(alloc, "seed", 'x', true))
-}
-
-/// The command of `-p TASK`, `-f FILE` and `-k KIND`, whose words begin after the name of the command.
-#[tactic(auto, unfolding(crate::specs::Words::named_app))]
-fn named_command<'a>(alloc: Global) -> Result<Command<'a>, AllocError>
-    ensures { IfOk result (λ c. app_of c ≡ named_app) }
-{
-    with_arg(task_command(alloc)?, value_arg(alloc, "kind", 'k', true))
-}
-
-/// The command of `-p TASK`, `-k KIND`, `-f FILE` and perhaps `-a NAME`, `-b BUDGET` and `-c CERT`, whose words begin after
-/// the name of the command.
-pub(crate) fn names_command<'a>(alloc: Global) -> Result<Command<'a>, AllocError>
-    ensures { IfOk result (λ c. app_of c ≡ names_app) }
-{
-    let command = named_command(alloc)?;
-    let command = with_arg(command, value_arg(alloc, "name", 'a', false))?;
-    let command = with_arg(command, value_arg(alloc, "budget", 'b', false))?;
-    with_arg(command, value_arg(alloc, "certificate", 'c', false))
-}
-
-/// The command of `-k KIND` and `-f FILE`, whose words begin after the name of the command.
-#[tactic(auto, unfolding(crate::specs::Words::af_app))]
-pub(crate) fn af_command<'a>(alloc: Global) -> Result<Command<'a>, AllocError>
-    ensures { IfOk result (λ c. app_of c ≡ af_app) }
-{
-    let command = with_arg(bare_command(alloc), value_arg(alloc, "file", 'f', true))?;
-    with_arg(command, value_arg(alloc, "kind", 'k', true))
-}
-
-/// The command of `-d CNF` and `-l LRAT`, whose words begin after the name of the command.
-#[tactic(auto, unfolding(crate::specs::Words::lrat_app))]
-pub(crate) fn lrat_command<'a>(alloc: Global) -> Result<Command<'a>, AllocError>
-    ensures { IfOk result (λ c. app_of c ≡ lrat_app) }
-{
-    let command = with_arg(bare_command(alloc), value_arg(alloc, "cnf", 'd', true))?;
-    with_arg(command, value_arg(alloc, "lrat", 'l', true))
-}
-
-/// The command of the options of a check and of `-i REFUTATION` and `-o OUTPUT`, whose words begin after the name of
-/// the command.
-pub(crate) fn export_command<'a>(alloc: Global) -> Result<Command<'a>, AllocError>
-    ensures { IfOk result (λ c. app_of c ≡ export_app) }
-{
-    let command = check_command(alloc)?;
-    let command = with_arg(command, value_arg(alloc, "refutation", 'i', true))?;
-    with_arg(command, value_arg(alloc, "output", 'o', true))
+    let rows = rows_of(name);
+    let mut command = bare_command(alloc);
+    for row in rows {
+        command = with_arg(command, value_arg(alloc, row.0, row.1, row.2))?;
+    }
+    Ok(command)
 }

@@ -1,21 +1,13 @@
 //! What the words ask for.
 
-ghost use Rattle.std.specs.Prelude.{◌≡◌, ◌≢◌, IfErr, IfOk, IsErr, IsSome, List, [], ℕ, codes, map};
+ghost use Rattle.std.specs.Prelude.{◌≡◌, ◌≢◌, IfErr, IfOk, IsErr, IsSome, List, None, Some, [], ℕ, codes, map};
 ghost use Rattle.std.specs.Prelude.{string_bytes, true};
 ghost use Rattle.clap.specs.Words.{first_value, found_of, kind_of, takes};
-ghost use Rattle.argue_words.specs.Words.{AreUnknown, RefusesOthers, af_app, af_request, af_requested, af_value, bench_app};
-ghost use Rattle.argue_words.specs.Words.{bench_request, bench_requested, bench_value, check_app, check_request};
-ghost use Rattle.argue_words.specs.Words.{check_requested, check_value, live_app, live_request, live_requested, live_value};
-ghost use Rattle.argue_words.specs.Words.{named, names_app, names_request, names_requested, names_value, other_requested};
-ghost use Rattle.argue_words.specs.Words.{export_app, export_request, export_requested, export_value};
-ghost use Rattle.argue_words.specs.Words.{lrat_app, lrat_request, lrat_requested, lrat_value};
-ghost use Rattle.argue_words.specs.Words.{request_of, requested, solve_app, solve_request, solve_requested, solve_value};
-ghost use Rattle.argue_words.specs.Words.{words_are_problems};
+ghost use Rattle.argue_words.specs.Words.{AreUnknown, RefusesOthers, asked, asked_by, command_app, named};
+ghost use Rattle.argue_words.specs.Words.{other_requested};
+ghost use Rattle.argue_words.specs.Words.{request_of, requested, solve_app, value_of, words_are_problems};
 
-use crate::options::{
-    af_command, bench_command, check_command, export_command, live_command, lrat_command,
-    names_command, solve_command,
-};
+use crate::options::command_of;
 use clap::ArgMatches;
 use clap::error::ErrorKind;
 use lists::Memory;
@@ -156,13 +148,7 @@ pub fn read_words<'a>(alloc: Global, words: &'a [String]) -> Result<Command<'a>,
         return Ok(Command::Version);
     };
     match named(first.as_str()) {
-        Some(CommandName::Check) => read_check(alloc, rest),
-        Some(CommandName::Live) => read_live(alloc, rest),
-        Some(CommandName::Bench) => read_bench(alloc, rest),
-        Some(CommandName::Names) => read_names(alloc, rest),
-        Some(CommandName::Af) => read_af(alloc, rest),
-        Some(CommandName::Lrat) => read_lrat(alloc, rest),
-        Some(CommandName::Export) => read_export(alloc, rest),
+        Some(name) => read_by(alloc, Some(name), rest),
         None => read_other(alloc, words),
     }
 }
@@ -211,194 +197,62 @@ fn read_other<'a>(alloc: Global, words: &'a [String]) -> Result<Command<'a>, Mem
     if listed {
         return Ok(Command::Problems);
     }
-    read_solve(alloc, words)
+    read_by(alloc, None, words)
 }
 
-// What the words of a query ask for.
-fn read_solve<'a>(alloc: Global, words: &'a [String]) -> Result<Command<'a>, Memory>
-    ensures request { IfOk result (λ c. request_of c ≡ solve_requested (map string_bytes words.now)) }
-    ensures unknown { IfOk result (λ c. c ≡ Command.Unknown → takes solve_app (map string_bytes words.now) ≢ true) }
+// What the words behind a command's name ask for, or those of a query, which has no name.
+fn read_by<'a>(
+    alloc: Global,
+    name: Option<CommandName>,
+    words: &'a [String],
+) -> Result<Command<'a>, Memory>
+    ensures request { IfOk result (λ c. request_of c ≡ asked_by name (map string_bytes words.now)) }
+    ensures unknown { IfOk result (λ c. c ≡ Command.Unknown → name ≡ None
+        → takes solve_app (map string_bytes words.now) ≢ true) }
 {
-    match solve_matches(alloc, words) {
-        Ok(matches) => Ok(solve_of(&matches)),
+    match matches_by(alloc, name, words) {
+        Ok(matches) => Ok(asked_of(name, &matches)),
         Err(error) => refusal(&error),
     }
 }
 
-// What the words behind `check` ask for.
-fn read_check<'a>(alloc: Global, words: &'a [String]) -> Result<Command<'a>, Memory>
-    ensures request { IfOk result (λ c. request_of c ≡ check_requested (map string_bytes words.now)) }
-{
-    match check_matches(alloc, words) {
-        Ok(matches) => Ok(check_of(&matches)),
-        Err(error) => refusal(&error),
-    }
-}
-
-// What the words behind `live` ask for.
-fn read_live<'a>(alloc: Global, words: &'a [String]) -> Result<Command<'a>, Memory>
-    ensures request { IfOk result (λ c. request_of c ≡ live_requested (map string_bytes words.now)) }
-{
-    match live_matches(alloc, words) {
-        Ok(matches) => Ok(live_of(&matches)),
-        Err(error) => refusal(&error),
-    }
-}
-
-// What the words behind `bench` ask for.
-fn read_bench<'a>(alloc: Global, words: &'a [String]) -> Result<Command<'a>, Memory>
-    ensures request { IfOk result (λ c. request_of c ≡ bench_requested (map string_bytes words.now)) }
-{
-    match bench_matches(alloc, words) {
-        Ok(matches) => Ok(bench_of(&matches)),
-        Err(error) => refusal(&error),
-    }
-}
-
-// What the words behind `names` ask for.
-fn read_names<'a>(alloc: Global, words: &'a [String]) -> Result<Command<'a>, Memory>
-    ensures request { IfOk result (λ c. request_of c ≡ names_requested (map string_bytes words.now)) }
-{
-    match names_matches(alloc, words) {
-        Ok(matches) => Ok(names_of(&matches)),
-        Err(error) => refusal(&error),
-    }
-}
-
-// What the words behind `af` ask for.
-fn read_af<'a>(alloc: Global, words: &'a [String]) -> Result<Command<'a>, Memory>
-    ensures request { IfOk result (λ c. request_of c ≡ af_requested (map string_bytes words.now)) }
-{
-    match af_matches(alloc, words) {
-        Ok(matches) => Ok(af_of(&matches)),
-        Err(error) => refusal(&error),
-    }
-}
-
-// What the words behind `lrat` ask for.
-fn read_lrat<'a>(alloc: Global, words: &'a [String]) -> Result<Command<'a>, Memory>
-    ensures request { IfOk result (λ c. request_of c ≡ lrat_requested (map string_bytes words.now)) }
-{
-    match lrat_matches(alloc, words) {
-        Ok(matches) => Ok(lrat_of(&matches)),
-        Err(error) => refusal(&error),
-    }
-}
-
-// What the words behind `export` ask for.
-fn read_export<'a>(alloc: Global, words: &'a [String]) -> Result<Command<'a>, Memory>
-    ensures request { IfOk result (λ c. request_of c ≡ export_requested (map string_bytes words.now)) }
-{
-    match export_matches(alloc, words) {
-        Ok(matches) => Ok(export_of(&matches)),
-        Err(error) => refusal(&error),
-    }
-}
-
-// What clap matches on the words of a query.
-fn solve_matches<'a>(alloc: Global, words: &'a [String]) -> Result<ArgMatches<'a>, clap::Error>
-    ensures taken { IfOk result (λ _. takes solve_app (map string_bytes words.now) ≡ true) }
+// What clap matches on the words of a command.
+fn matches_by<'a>(
+    alloc: Global,
+    name: Option<CommandName>,
+    words: &'a [String],
+) -> Result<ArgMatches<'a>, clap::Error>
+    ensures taken { IfOk result (λ _. takes (command_app name) (map string_bytes words.now) ≡ true) }
     ensures values { IfOk result (λ m. (id : List ℕ)
-        → first_value (found_of m) id ≡ solve_value (map string_bytes words.now) id) }
-    ensures given { IfOk result (λ m. IsSome (first_value (found_of m) (codes "task"))
+        → first_value (found_of m) id ≡ value_of name (map string_bytes words.now) id) }
+    ensures given { IfOk result (λ m. name ≡ None → IsSome (first_value (found_of m) (codes "task"))
         × IsSome (first_value (found_of m) (codes "file"))) }
-    ensures refused { IfErr result (λ e. takes solve_app (map string_bytes words.now) ≡ true
+    ensures refused { IfErr result (λ e. takes (command_app name) (map string_bytes words.now) ≡ true
         → kind_of e ≡ ErrorKind.OutOfMemory) }
 {
-    let command = solve_command(alloc)?;
+    let command = command_of(alloc, name)?;
     command.try_get_matches_from(words)
 }
 
-// What clap matches on the words of a check.
-fn check_matches<'a>(alloc: Global, words: &'a [String]) -> Result<ArgMatches<'a>, clap::Error>
-    ensures taken { IfOk result (λ _. takes check_app (map string_bytes words.now) ≡ true) }
-    ensures values { IfOk result (λ m. (id : List ℕ)
-        → first_value (found_of m) id ≡ check_value (map string_bytes words.now) id) }
-    ensures refused { IfErr result (λ e. takes check_app (map string_bytes words.now) ≡ true
-        → kind_of e ≡ ErrorKind.OutOfMemory) }
+// What a command's words ask for that clap takes.
+fn asked_of<'a>(name: Option<CommandName>, matches: &ArgMatches<'a>) -> Command<'a>
+    ensures { request_of result ≡ asked name (first_value (found_of matches.now)) }
 {
-    let command = check_command(alloc)?;
-    command.try_get_matches_from(words)
-}
-
-// What clap matches on the words of a script's run.
-fn live_matches<'a>(alloc: Global, words: &'a [String]) -> Result<ArgMatches<'a>, clap::Error>
-    ensures taken { IfOk result (λ _. takes live_app (map string_bytes words.now) ≡ true) }
-    ensures values { IfOk result (λ m. (id : List ℕ)
-        → first_value (found_of m) id ≡ live_value (map string_bytes words.now) id) }
-    ensures refused { IfErr result (λ e. takes live_app (map string_bytes words.now) ≡ true
-        → kind_of e ≡ ErrorKind.OutOfMemory) }
-{
-    let command = live_command(alloc)?;
-    command.try_get_matches_from(words)
-}
-
-// What clap matches on the words of a large input's run.
-fn bench_matches<'a>(alloc: Global, words: &'a [String]) -> Result<ArgMatches<'a>, clap::Error>
-    ensures taken { IfOk result (λ _. takes bench_app (map string_bytes words.now) ≡ true) }
-    ensures values { IfOk result (λ m. (id : List ℕ)
-        → first_value (found_of m) id ≡ bench_value (map string_bytes words.now) id) }
-    ensures refused { IfErr result (λ e. takes bench_app (map string_bytes words.now) ≡ true
-        → kind_of e ≡ ErrorKind.OutOfMemory) }
-{
-    let command = bench_command(alloc)?;
-    command.try_get_matches_from(words)
-}
-
-// What clap matches on the words of a query by names.
-fn names_matches<'a>(alloc: Global, words: &'a [String]) -> Result<ArgMatches<'a>, clap::Error>
-    ensures taken { IfOk result (λ _. takes names_app (map string_bytes words.now) ≡ true) }
-    ensures values { IfOk result (λ m. (id : List ℕ)
-        → first_value (found_of m) id ≡ names_value (map string_bytes words.now) id) }
-    ensures refused { IfErr result (λ e. takes names_app (map string_bytes words.now) ≡ true
-        → kind_of e ≡ ErrorKind.OutOfMemory) }
-{
-    let command = names_command(alloc)?;
-    command.try_get_matches_from(words)
-}
-
-// What clap matches on the words of a text with numbers.
-fn af_matches<'a>(alloc: Global, words: &'a [String]) -> Result<ArgMatches<'a>, clap::Error>
-    ensures taken { IfOk result (λ _. takes af_app (map string_bytes words.now) ≡ true) }
-    ensures values { IfOk result (λ m. (id : List ℕ)
-        → first_value (found_of m) id ≡ af_value (map string_bytes words.now) id) }
-    ensures refused { IfErr result (λ e. takes af_app (map string_bytes words.now) ≡ true
-        → kind_of e ≡ ErrorKind.OutOfMemory) }
-{
-    let command = af_command(alloc)?;
-    command.try_get_matches_from(words)
-}
-
-// What clap matches on the words of a check of a refutation.
-fn lrat_matches<'a>(alloc: Global, words: &'a [String]) -> Result<ArgMatches<'a>, clap::Error>
-    ensures taken { IfOk result (λ _. takes lrat_app (map string_bytes words.now) ≡ true) }
-    ensures values { IfOk result (λ m. (id : List ℕ)
-        → first_value (found_of m) id ≡ lrat_value (map string_bytes words.now) id) }
-    ensures refused { IfErr result (λ e. takes lrat_app (map string_bytes words.now) ≡ true
-        → kind_of e ≡ ErrorKind.OutOfMemory) }
-{
-    let command = lrat_command(alloc)?;
-    command.try_get_matches_from(words)
-}
-
-// What clap matches on the words for the texts of a refutation.
-fn export_matches<'a>(alloc: Global, words: &'a [String]) -> Result<ArgMatches<'a>, clap::Error>
-    ensures taken { IfOk result (λ _. takes export_app (map string_bytes words.now) ≡ true) }
-    ensures values { IfOk result (λ m. (id : List ℕ)
-        → first_value (found_of m) id ≡ export_value (map string_bytes words.now) id) }
-    ensures refused { IfErr result (λ e. takes export_app (map string_bytes words.now) ≡ true
-        → kind_of e ≡ ErrorKind.OutOfMemory) }
-{
-    let command = export_command(alloc)?;
-    command.try_get_matches_from(words)
+    match name {
+        None => solve_of(matches),
+        Some(CommandName::Check) => check_of(matches),
+        Some(CommandName::Live) => live_of(matches),
+        Some(CommandName::Bench) => bench_of(matches),
+        Some(CommandName::Names) => names_of(matches),
+        Some(CommandName::Af) => af_of(matches),
+        Some(CommandName::Lrat) => lrat_of(matches),
+        Some(CommandName::Export) => export_of(matches),
+    }
 }
 
 // The check of words that clap takes.
 fn check_of<'a>(matches: &ArgMatches<'a>) -> Command<'a>
-    ensures { request_of result ≡ check_request (first_value (found_of matches.now) (codes "task"))
-        (first_value (found_of matches.now) (codes "number")) (first_value (found_of matches.now) (codes "file"))
-        (first_value (found_of matches.now) (codes "answer"))
-        (first_value (found_of matches.now) (codes "certificate")) }
+    ensures { request_of result ≡ asked (Some CommandName.Check) (first_value (found_of matches.now)) }
 {
     let Some(task) = matches.get_str("task") else {
         return Command::Unknown;
@@ -424,9 +278,7 @@ fn check_of<'a>(matches: &ArgMatches<'a>) -> Command<'a>
 
 // The script's run of words that clap takes.
 fn live_of<'a>(matches: &ArgMatches<'a>) -> Command<'a>
-    ensures { request_of result ≡ live_request (first_value (found_of matches.now) (codes "file"))
-        (first_value (found_of matches.now) (codes "script")) (first_value (found_of matches.now) (codes "budget"))
-        (first_value (found_of matches.now) (codes "certificate")) }
+    ensures { request_of result ≡ asked (Some CommandName.Live) (first_value (found_of matches.now)) }
 {
     let Some(file) = matches.get_str("file") else {
         return Command::Unknown;
@@ -446,8 +298,7 @@ fn live_of<'a>(matches: &ArgMatches<'a>) -> Command<'a>
 
 // The large input's run of words that clap takes.
 fn bench_of<'a>(matches: &ArgMatches<'a>) -> Command<'a>
-    ensures { request_of result ≡ bench_request (first_value (found_of matches.now) (codes "arguments"))
-        (first_value (found_of matches.now) (codes "seed")) }
+    ensures { request_of result ≡ asked (Some CommandName.Bench) (first_value (found_of matches.now)) }
 {
     let Some(arguments) = matches.get_str("arguments") else {
         return Command::Unknown;
@@ -460,10 +311,7 @@ fn bench_of<'a>(matches: &ArgMatches<'a>) -> Command<'a>
 
 // The query by names of words that clap takes.
 fn names_of<'a>(matches: &ArgMatches<'a>) -> Command<'a>
-    ensures { request_of result ≡ names_request (first_value (found_of matches.now) (codes "task"))
-        (first_value (found_of matches.now) (codes "kind")) (first_value (found_of matches.now) (codes "file"))
-        (first_value (found_of matches.now) (codes "name")) (first_value (found_of matches.now) (codes "budget"))
-        (first_value (found_of matches.now) (codes "certificate")) }
+    ensures { request_of result ≡ asked (Some CommandName.Names) (first_value (found_of matches.now)) }
 {
     let Some(task) = matches.get_str("task") else {
         return Command::Unknown;
@@ -489,8 +337,7 @@ fn names_of<'a>(matches: &ArgMatches<'a>) -> Command<'a>
 
 // The text with numbers of words that clap takes.
 fn af_of<'a>(matches: &ArgMatches<'a>) -> Command<'a>
-    ensures { request_of result ≡ af_request (first_value (found_of matches.now) (codes "kind"))
-        (first_value (found_of matches.now) (codes "file")) }
+    ensures { request_of result ≡ asked (Some CommandName.Af) (first_value (found_of matches.now)) }
 {
     let Some(kind) = matches.get_str("kind") else {
         return Command::Unknown;
@@ -503,8 +350,7 @@ fn af_of<'a>(matches: &ArgMatches<'a>) -> Command<'a>
 
 // The check of a refutation of words that clap takes.
 fn lrat_of<'a>(matches: &ArgMatches<'a>) -> Command<'a>
-    ensures { request_of result ≡ lrat_request (first_value (found_of matches.now) (codes "cnf"))
-        (first_value (found_of matches.now) (codes "lrat")) }
+    ensures { request_of result ≡ asked (Some CommandName.Lrat) (first_value (found_of matches.now)) }
 {
     let Some(cnf) = matches.get_str("cnf") else {
         return Command::Unknown;
@@ -517,12 +363,7 @@ fn lrat_of<'a>(matches: &ArgMatches<'a>) -> Command<'a>
 
 // The texts of a refutation, of words that clap takes.
 fn export_of<'a>(matches: &ArgMatches<'a>) -> Command<'a>
-    ensures { request_of result ≡ export_request (first_value (found_of matches.now) (codes "task"))
-        (first_value (found_of matches.now) (codes "number")) (first_value (found_of matches.now) (codes "file"))
-        (first_value (found_of matches.now) (codes "answer"))
-        (first_value (found_of matches.now) (codes "certificate"))
-        (first_value (found_of matches.now) (codes "refutation"))
-        (first_value (found_of matches.now) (codes "output")) }
+    ensures { request_of result ≡ asked (Some CommandName.Export) (first_value (found_of matches.now)) }
 {
     let Some(task) = matches.get_str("task") else {
         return Command::Unknown;
@@ -559,19 +400,13 @@ fn export_of<'a>(matches: &ArgMatches<'a>) -> Command<'a>
 
 // The query of words that clap takes.
 fn solve_of<'a>(matches: &ArgMatches<'a>) -> Command<'a>
-    requires { IsSome (first_value (found_of matches.now) (codes "task"))
-        × IsSome (first_value (found_of matches.now) (codes "file")) }
-    ensures request { request_of result ≡ solve_request (first_value (found_of matches.now) (codes "task"))
-        (first_value (found_of matches.now) (codes "file")) (first_value (found_of matches.now) (codes "number"))
-        (first_value (found_of matches.now) (codes "budget"))
-        (first_value (found_of matches.now) (codes "certificate")) }
-    ensures known { result ≢ Command.Unknown }
+    ensures { request_of result ≡ asked None (first_value (found_of matches.now)) }
 {
     let Some(task) = matches.get_str("task") else {
-        unreachable!()
+        return Command::Unknown;
     };
     let Some(file) = matches.get_str("file") else {
-        unreachable!()
+        return Command::Unknown;
     };
     Command::Solve(SolveWords {
         task,
