@@ -79,7 +79,8 @@ pub series_kept : (names : List (List ℕ)) (name prefix : List ℕ) (first star
     → IsSeries names prefix first start count → IsSeries (names ++ name ∷ []) prefix first start count
 series_kept names name prefix first start count is = record {
   within = omega (arith, is.within, length-append names (name ∷ []));
-  numbered = λ offset low. get_left names (name ∷ []) (start + offset) (omega (arith, is.within)) ∙ is.numbered offset low;
+  numbered = λ offset low. get_left names (name ∷ []) (start + offset) (omega (arith, is.within))
+      ∙ is.numbered offset low;
 }
 
 pub series_next : (names : List (List ℕ)) (name prefix : List ℕ) (first start count more : ℕ)
@@ -120,4 +121,5 @@ series_put text k keys new series next total false added has is says was_new lon
     let names_are : map text new ≡ map text keys ++ text k ∷ []
     = ap (λ ks. map text ks) is ∙ map-append text keys (k ∷ []) in
     subst (λ ns. HasSeries ns next) (sym names_are)
-    (step (map text keys) has (omega (arith, long, ap length names_are, length-map new text, length-append (map text keys) (text k ∷ []))))
+    (step (map text keys) has
+    (omega (arith, long, ap length names_are, length-map new text, length-append (map text keys) (text k ∷ []))))

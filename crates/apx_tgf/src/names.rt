@@ -12,8 +12,8 @@ use std::marker::Model;
 /// Names in the order in which they came, each once: the first has number 1. A name is a part of the text that was
 /// read.
 ///
-/// The number of a name in a series of them is told by its bytes. Any other is hashed, by a hash that is the same in each
-/// run, so that a text can be made on which look-ups take longer.
+/// The number of a name in a series of them is told by its bytes. Any other is hashed, by a hash that is the same in
+/// each run, so that a text can be made on which look-ups take longer.
 pub struct Names<'a> {
     names: IndexSet<&'a [u8]>,
     series: Series<'a>,
