@@ -24,7 +24,6 @@ use Rattle.certificate_claims.specs.declared.certificate.Certificate.{Certificat
 use Rattle.certificate_text.specs.declared.fault.CertFault.{CertFault}
 use Rattle.certificate_text.specs.declared.fault.CertFault.TheVariants as certificate_fault
 use Rattle.argue_commands.specs.Checks.{AcceptsFiles, CheckEnds, ChecksFiles, EndsChecking, HasCheckBytes, IsChecked}
-use Rattle.argue_commands.specs.Checks.{ReadsFiles}
 use Rattle.argue_commands.specs.Checks.{IsTextFault, answer_status, certificate_status, check_inputs}
 use Rattle.argue_commands.specs.Inputs.{EndsReading, Follow, Input, IsRead, IsSoundIn, IsUnrefused, Passes}
 use Rattle.argue_commands.specs.Inputs.{Reading, StopsAt, StopsAtFirst, StopsReading, input, status_of_fault}
@@ -33,12 +32,12 @@ use Rattle.argue_commands.specs.declared.checking.CheckBytes.{CheckBytes}
 use Rattle.argue_commands.specs.declared.checking.Checked.{Checked}
 use Rattle.edit_rules.specs.Kinds.{framework_of}
 use Rattle.argue_commands.specs.declared.ended.FaultCause.TheVariants as cause
+use Rattle.argue_commands.specs.declared.ended.Limit.TheVariants as limit
 use Rattle.argue_commands.specs.declared.ended.Refusal.TheVariants.{Line, NoRefutation, Query, UnknownName}
 use Rattle.argue_commands.specs.declared.ended.Status.{Status}
 use Rattle.argue_commands.specs.declared.ended.Status.TheVariants.{Done, Usage, InputRefused, ReadFault}
 use Rattle.argue_commands.specs.declared.ended.Status.TheVariants.{WriteFault, WantOfMemory, Unknown, Limit}
 use Rattle.argue_commands.specs.declared.ended.Status.TheVariants.{Rejected}
-use Rattle.argue_commands.proofs.KnownLemmas.{at_stop}
 
 -- ---- reading
 
@@ -84,11 +83,22 @@ parts h S c n = record { holds = h; Serves = S; old_count = c; new_count = n }
 -- what a later call knows of the files is what was known at first
 still_stops : (h : List ℕ → KnownFile) (S S' : List ℕ → Type 0) (c n : Role → ℕ) (one : Input) (end : Status)
     → HoldsStill S S' → StopsAt (parts h S' c n) end one → StopsAt (parts h S c n) end one
-still_stops h S S' c n one end still =
-    at_stop (parts h S' c n) one (λ e. StopsAt (parts h S c n) e one)
-    (λ r line cause is first. (is, record { bytes = first.bytes; has = first.has; first = first.first }))
-    (λ r is read. (is, record { counted = read.counted; unserved = λ served. read.unserved (still one.file served) }))
-    (λ longer. longer) end
+still_stops h S S' c n one (InputRefused (Line of line cause)) still stops =
+    (stops.0, record { bytes = stops.1.bytes; has = stops.1.has; first = stops.1.first })
+still_stops h S S' c n one (InputRefused (Query fault)) still stops = absurd stops
+still_stops h S S' c n one (InputRefused UnknownName) still stops = absurd stops
+still_stops h S S' c n one (InputRefused (NoRefutation k)) still stops = absurd stops
+still_stops h S S' c n one (ReadFault of) still stops =
+    (stops.0, record { counted = stops.1.counted; unserved = λ served. stops.1.unserved (still one.file served) })
+still_stops h S S' c n one (Limit limit.Input) still stops = stops
+still_stops h S S' c n one (Limit limit.Extensions) still stops = absurd stops
+still_stops h S S' c n one (Limit limit.Log) still stops = absurd stops
+still_stops h S S' c n one Unknown still stops = absurd stops
+still_stops h S S' c n one Done still stops = absurd stops
+still_stops h S S' c n one Usage still stops = absurd stops
+still_stops h S S' c n one WriteFault still stops = absurd stops
+still_stops h S S' c n one WantOfMemory still stops = absurd stops
+still_stops h S S' c n one (Rejected rejection) still stops = absurd stops
 
 pub moved : (h h' : List ℕ → KnownFile) (S S' : List ℕ → Type 0) (c c' n : Role → ℕ) (one : Input) (end : Status)
     → h' ≡ h → HoldsStill S S' → c' ≡ c → EndsReading (parts h' S' c' n) one end → EndsReading (parts h S c n) one end
@@ -214,8 +224,7 @@ stops_told found (one ∷ more) end (inl first) is =
     let P : Status → Type 0 = λ e. StopsAt found e one in subst P is first.0
 stops_told found (one ∷ more) end (inr later) is = stops_told found more end later.1 is
 
--- a run that isn't done has a text that its status says
-pub not_done_told : (end : Status) → end ≢ Done → IsSome (common_text end)
+not_done_told : (end : Status) → end ≢ Done → IsSome (common_text end)
 not_done_told Done other = absurd (other refl)
 not_done_told Usage other = refl
 not_done_told (InputRefused refusal) other = refl
@@ -269,40 +278,18 @@ accepts_from holds asked texts bytes read has is ends = record {
   accepts = ends;
 }
 
--- what holds of what was read, and accepted, holds of the files
-pub files_read : (holds : List ℕ → KnownFile) (asked : Asked) (texts : CheckTexts) (read : Checked)
-    (P : AnyFramework → Answer → Certificate → Type 0) → AcceptsFiles holds asked texts read
-    → P (framework_of read.framework) read.answer read.certificate → ReadsFiles holds texts P
-files_read holds asked texts read P accepts is = record {
+-- an accepted certificate ends the check so
+pub checks_accepted : (holds : List ℕ → KnownFile) (asked : Asked) (texts : CheckTexts) (read : Checked)
+    → AcceptsFiles holds asked texts read → ChecksFiles holds asked texts Done
+checks_accepted holds asked texts read accepts = record {
   framework = framework_of read.framework;
   answer = read.answer;
   certificate = read.certificate;
   of_framework = accepts.of_framework;
   of_answer = accepts.of_answer;
   of_certificate = accepts.of_certificate;
-  ends = is;
+  ends = accepts.accepts;
 }
-
--- and with it what follows
-pub files_follow : (holds : List ℕ → KnownFile) (texts : CheckTexts)
-    (P Q : AnyFramework → Answer → Certificate → Type 0) → ReadsFiles holds texts P
-    → ((f : AnyFramework) (answer : Answer) (certificate : Certificate) → P f answer certificate
-    → Q f answer certificate) → ReadsFiles holds texts Q
-files_follow holds texts P Q of follows = record {
-  framework = of.framework;
-  answer = of.answer;
-  certificate = of.certificate;
-  of_framework = of.of_framework;
-  of_answer = of.of_answer;
-  of_certificate = of.of_certificate;
-  ends = follows of.framework of.answer of.certificate of.ends;
-}
-
--- an accepted certificate ends the check so
-pub checks_accepted : (holds : List ℕ → KnownFile) (asked : Asked) (texts : CheckTexts) (read : Checked)
-    → AcceptsFiles holds asked texts read → ChecksFiles holds asked texts Done
-checks_accepted holds asked texts read accepts = files_read holds asked texts read
-    (λ framework answer certificate. CheckEnds framework asked answer certificate Done) accepts accepts.accepts
 
 pub judged_err : {T : Type 0} (found : Reading) (asked : Asked) (texts : CheckTexts) (bytes : CheckBytes)
     (read : Checked) (r : Result T Status) → HasCheckBytes found.holds texts bytes → IsChecked bytes read

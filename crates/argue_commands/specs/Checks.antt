@@ -54,21 +54,15 @@ pub record IsCertificateOf (known : KnownFile) (certificate : Certificate) : Typ
   pub has : HasBytes known bytes
   pub reads : CertReadsAs bytes (Ok certificate)
 
--- the files read as a framework, an answer and a certificate, of which this holds
-pub record ReadsFiles (holds : List ℕ → KnownFile) (texts : CheckTexts)
-    (P : Framework → Answer → Certificate → Type 0) : Type 0 where
+-- a check of what the files read as ends so
+pub record ChecksFiles (holds : List ℕ → KnownFile) (asked : Asked) (texts : CheckTexts) (end : Status) : Type 0 where
   pub framework : Framework
   pub answer : Answer
   pub certificate : Certificate
   pub of_framework : IsFrameworkOf (holds texts.file) framework
   pub of_answer : IsAnswerOf (holds texts.answer) answer
   pub of_certificate : IsCertificateOf (holds texts.certificate) certificate
-  pub ends : P framework answer certificate
-
--- a check of what the files read as ends so
-abbrev pub ChecksFiles : (List ℕ → KnownFile) → Asked → CheckTexts → Status → Type 0
-ChecksFiles holds asked texts end =
-    ReadsFiles holds texts (λ framework answer certificate. CheckEnds framework asked answer certificate end)
+  pub ends : CheckEnds framework asked answer certificate end
 
 -- the files read as these, and the certificate is accepted
 pub record AcceptsFiles (holds : List ℕ → KnownFile) (asked : Asked) (texts : CheckTexts) (read : Checked) : Type 0

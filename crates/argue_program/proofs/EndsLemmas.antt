@@ -8,7 +8,7 @@ use Rattle.argue_words.specs.Words.{CheckTexts, IsSolveQuery, LiveTexts, Request
 use Rattle.argue_words.proofs.RequestLaws.{requested_query}
 use Rattle.framework_text.specs.FrameworkText.{IsFaulty, ReadsAs}
 use Rattle.framework_text.proofs.Readings.{ReadsAs-numbered, ReadsAs-same}
-use Rattle.argue_commands.specs.Inputs.{HasReadFault, Input, IsFrameworkOf, IsScriptOf}
+use Rattle.argue_commands.specs.Inputs.{HasReadFault, Input, IsFirstFaultIn, IsFirstFaultOf, IsFrameworkOf, IsScriptOf}
 use Rattle.argue_commands.specs.Inputs.{IsSoundOf, Reading, StopsAt, StopsAtFirst, input}
 use Rattle.argue_program.specs.Rows.{EndsCommand, EndsLarge, EndsLive, EndsSolved, bench_row, check_row, live_row}
 use Rattle.argue_program.specs.Rows.{problems_row, row_of, solve_row, unknown_row, version_row}
@@ -19,7 +19,7 @@ use Rattle.argue_program.specs.declared.large.LargeInput.{LargeInput}
 use Rattle.argue_commands.specs.declared.query.Solving.{Solving}
 use Rattle.argue_commands.specs.Checks.{CheckEnds, ChecksFiles, IsAnswerOf, IsCertificateOf, check_inputs}
 use Rattle.argue_commands.proofs.CheckLemmas.{answer_sound, certificate_sound, framework_sound, stops_told}
-use Rattle.argue_commands.proofs.KnownLemmas.{bytes_at, within_at, readable_or_faulty, stops_at_line}
+use Rattle.argue_commands.proofs.KnownLemmas.{bytes_at, within_at, longer_at, readable_or_faulty, first_at}
 use Rattle.argue_commands.proofs.KnownLemmas.{framework_reads}
 use Rattle.semantics.specs.Frameworks.{Framework as AnyFramework}
 use Rattle.iccma_tasks.specs.AnswerText.{filled_fields, ReadsAs as AnswerReadsAs}
@@ -42,12 +42,13 @@ use Rattle.script_text.proofs.FirstFaults.{script_is_faultless}
 use Rattle.script_text.proofs.OneScript.{script_same}
 use Rattle.script_text.specs.ScriptText.{IsScript}
 use Rattle.script_text.specs.declared.script.Script.{Script}
+use Rattle.argue_commands.specs.declared.ended.Limit.TheVariants as limit
+use Rattle.argue_commands.specs.declared.ended.Refusal.TheVariants.{Line, NoRefutation, Query, UnknownName}
 use Rattle.argue_commands.specs.declared.ended.Status.{Status}
 use Rattle.argue_commands.specs.declared.ended.Status.TheVariants.{Done, Usage, InputRefused, ReadFault}
 use Rattle.argue_commands.specs.declared.ended.Status.TheVariants.{WriteFault, WantOfMemory, Unknown, Limit}
 use Rattle.argue_commands.specs.declared.ended.Status.TheVariants.{Rejected}
 use Rattle.argue_program.specs.declared.ended.Transcript.{Transcript}
-use Rattle.argue_program.proofs.StopLemmas.{stops_at_length, unless_write}
 use Rattle.num_text.specs.declared.limit.TheConstants.{MAX_INPUT}
 
 -- ---- the row of a query
@@ -99,33 +100,161 @@ module _ (found : Reading) (words : List (List ℕ)) (texts : SolveTexts) (query
       let short = within_at (found.holds texts.file) bytes of.bytes asks.known of.has in
       omega arith
 
-  query_refused : (end : Status) → IsFaulty bytes → length bytes ≤ MAX_INPUT → EndsQuery found texts query kept end
-      → RefusesBytes (Framework 1) bytes end
-  query_refused end faulty short (inl stops) =
-      stops_at_line found (input (Framework 1) texts.file) bytes asks.known
-      (no_read_fault found words texts query bytes asks) (RefusesBytes (Framework 1) bytes)
-      (λ r line c is first. (is, first)) end short stops
-  query_refused end faulty short (inr (inl is)) =
-      let P : Status → Type 0 = RefusesBytes (Framework 1) bytes in subst P (sym is) tt
-  query_refused end faulty short (inr (inr solved)) = absurd (unread end solved faulty)
-
   -- faulty bytes within the limit are refused
   pub refuses_bytes : (end : Status) → IsFaulty bytes → length bytes ≤ MAX_INPUT → (end ≢ WriteFault
       → EndsQuery found texts query kept end) → RefusesBytes (Framework 1) bytes end
-  refuses_bytes end faulty short ends =
-      unless_write (RefusesBytes (Framework 1) bytes) tt end (λ other. query_refused end faulty short (ends other))
-
-  query_too_long : (end : Status) → MAX_INPUT < length bytes → EndsQuery found texts query kept end → RefusesLength end
-  query_too_long end long (inl stops) =
-      stops_at_length found (input (Framework 1) texts.file) bytes asks.known
-      (no_read_fault found words texts query bytes asks) end long stops
-  query_too_long end long (inr (inl is)) = subst RefusesLength (sym is) tt
-  query_too_long end long (inr (inr solved)) = absurd (too_long_for end solved long)
+  refuses_bytes Done faulty short ends = not_done (ends (λ e. cc))
+    where
+      not_done : EndsQuery found texts query kept Done → ⊥
+      not_done (inl stops) = stops
+      not_done (inr (inl is)) = done_no_memory is
+      not_done (inr (inr solved)) = unread Done solved faulty
+  refuses_bytes (InputRefused (Query fault)) faulty short ends = not_query (ends (λ e. cc))
+    where
+      not_query : EndsQuery found texts query kept (InputRefused (Query fault)) → ⊥
+      not_query (inl stops) = stops
+      not_query (inr (inl is)) = absurd (cc)
+      not_query (inr (inr solved)) = unread (InputRefused (Query fault)) solved faulty
+  refuses_bytes (InputRefused UnknownName) faulty short ends = not_name (ends (λ e. cc))
+    where
+      not_name : EndsQuery found texts query kept (InputRefused UnknownName) → ⊥
+      not_name (inl stops) = stops
+      not_name (inr (inl is)) = absurd (cc)
+      not_name (inr (inr solved)) = unread (InputRefused UnknownName) solved faulty
+  refuses_bytes (InputRefused (NoRefutation k)) faulty short ends = not_number (ends (λ e. cc))
+    where
+      not_number : EndsQuery found texts query kept (InputRefused (NoRefutation k)) → ⊥
+      not_number (inl stops) = stops
+      not_number (inr (inl is)) = absurd (cc)
+      not_number (inr (inr solved)) = unread (InputRefused (NoRefutation k)) solved faulty
+  refuses_bytes (InputRefused (Line r line c)) faulty short ends = at_first (ends (λ e. cc))
+    where
+      at_first : EndsQuery found texts query kept (InputRefused (Line r line c))
+          → (r ≡ Framework 1) × IsFirstFaultIn (Framework 1) bytes line c
+      at_first (inl stops) =
+          (stops.0, first_at found (input (Framework 1) texts.file) bytes line c asks.known stops.1)
+      at_first (inr (inl is)) = absurd (cc)
+      at_first (inr (inr solved)) = absurd (unread (InputRefused (Line r line c)) solved faulty)
+  refuses_bytes Usage faulty short ends = not_usage (ends (λ e. cc))
+    where
+      not_usage : EndsQuery found texts query kept Usage → ⊥
+      not_usage (inl stops) = stops
+      not_usage (inr (inl is)) = absurd (cc)
+      not_usage (inr (inr solved)) = unread Usage solved faulty
+  refuses_bytes (Rejected rejection) faulty short ends = not_rejected (ends (λ e. cc))
+    where
+      not_rejected : EndsQuery found texts query kept (Rejected rejection) → ⊥
+      not_rejected (inl stops) = stops
+      not_rejected (inr (inl is)) = absurd (cc)
+      not_rejected (inr (inr solved)) = unread (Rejected rejection) solved faulty
+  refuses_bytes (ReadFault r) faulty short ends = not_unread (ends (λ e. cc))
+    where
+      not_unread : EndsQuery found texts query kept (ReadFault r) → ⊥
+      not_unread (inl stops) = no_read_fault found words texts query bytes asks stops.1
+      not_unread (inr (inl is)) = absurd (cc)
+      not_unread (inr (inr solved)) = unread (ReadFault r) solved faulty
+  refuses_bytes Unknown faulty short ends = not_unknown (ends (λ e. cc))
+    where
+      not_unknown : EndsQuery found texts query kept Unknown → ⊥
+      not_unknown (inl stops) = stops
+      not_unknown (inr (inl is)) = absurd (cc)
+      not_unknown (inr (inr solved)) = unread Unknown solved faulty
+  refuses_bytes (Limit limit.Extensions) faulty short ends = not_many (ends (λ e. cc))
+    where
+      not_many : EndsQuery found texts query kept (Limit limit.Extensions) → ⊥
+      not_many (inl stops) = stops
+      not_many (inr (inl is)) = absurd (cc)
+      not_many (inr (inr solved)) = unread (Limit limit.Extensions) solved faulty
+  refuses_bytes (Limit limit.Log) faulty short ends = not_full (ends (λ e. cc))
+    where
+      not_full : EndsQuery found texts query kept (Limit limit.Log) → ⊥
+      not_full (inl stops) = stops
+      not_full (inr (inl is)) = absurd (cc)
+      not_full (inr (inr solved)) = unread (Limit limit.Log) solved faulty
+  refuses_bytes WriteFault faulty short ends = tt
+  refuses_bytes WantOfMemory faulty short ends = tt
+  refuses_bytes (Limit limit.Input) faulty short ends = not_longer (ends (λ e. cc))
+    where
+      not_longer : EndsQuery found texts query kept (Limit limit.Input) → ⊥
+      not_longer (inl stops) =
+          let long = longer_at (found.holds texts.file) bytes asks.known stops in absurd (omega arith)
+      not_longer (inr (inl is)) = absurd (cc)
+      not_longer (inr (inr solved)) = unread (Limit limit.Input) solved faulty
 
   -- bytes over the limit are refused
   pub refuses_length : (end : Status) → MAX_INPUT < length bytes → (end ≢ WriteFault
       → EndsQuery found texts query kept end) → RefusesLength end
-  refuses_length end long ends = unless_write RefusesLength tt end (λ other. query_too_long end long (ends other))
+  refuses_length Done long ends = not_done (ends (λ e. cc))
+    where
+      not_done : EndsQuery found texts query kept Done → ⊥
+      not_done (inl stops) = stops
+      not_done (inr (inl is)) = done_no_memory is
+      not_done (inr (inr solved)) = too_long_for Done solved long
+  refuses_length (InputRefused (Query fault)) long ends = not_query (ends (λ e. cc))
+    where
+      not_query : EndsQuery found texts query kept (InputRefused (Query fault)) → ⊥
+      not_query (inl stops) = stops
+      not_query (inr (inl is)) = absurd (cc)
+      not_query (inr (inr solved)) = too_long_for (InputRefused (Query fault)) solved long
+  refuses_length (InputRefused UnknownName) long ends = not_name (ends (λ e. cc))
+    where
+      not_name : EndsQuery found texts query kept (InputRefused UnknownName) → ⊥
+      not_name (inl stops) = stops
+      not_name (inr (inl is)) = absurd (cc)
+      not_name (inr (inr solved)) = too_long_for (InputRefused UnknownName) solved long
+  refuses_length (InputRefused (NoRefutation k)) long ends = not_number (ends (λ e. cc))
+    where
+      not_number : EndsQuery found texts query kept (InputRefused (NoRefutation k)) → ⊥
+      not_number (inl stops) = stops
+      not_number (inr (inl is)) = absurd (cc)
+      not_number (inr (inr solved)) = too_long_for (InputRefused (NoRefutation k)) solved long
+  refuses_length (InputRefused (Line r line c)) long ends = not_line (ends (λ e. cc))
+    where
+      not_line : EndsQuery found texts query kept (InputRefused (Line r line c)) → ⊥
+      not_line (inl stops) =
+          let short = within_at (found.holds texts.file) bytes stops.1.bytes asks.known stops.1.has in
+          absurd (omega arith)
+      not_line (inr (inl is)) = absurd (cc)
+      not_line (inr (inr solved)) = too_long_for (InputRefused (Line r line c)) solved long
+  refuses_length Usage long ends = not_usage (ends (λ e. cc))
+    where
+      not_usage : EndsQuery found texts query kept Usage → ⊥
+      not_usage (inl stops) = stops
+      not_usage (inr (inl is)) = absurd (cc)
+      not_usage (inr (inr solved)) = too_long_for Usage solved long
+  refuses_length (Rejected rejection) long ends = not_rejected (ends (λ e. cc))
+    where
+      not_rejected : EndsQuery found texts query kept (Rejected rejection) → ⊥
+      not_rejected (inl stops) = stops
+      not_rejected (inr (inl is)) = absurd (cc)
+      not_rejected (inr (inr solved)) = too_long_for (Rejected rejection) solved long
+  refuses_length (ReadFault r) long ends = not_unread (ends (λ e. cc))
+    where
+      not_unread : EndsQuery found texts query kept (ReadFault r) → ⊥
+      not_unread (inl stops) = no_read_fault found words texts query bytes asks stops.1
+      not_unread (inr (inl is)) = absurd (cc)
+      not_unread (inr (inr solved)) = too_long_for (ReadFault r) solved long
+  refuses_length Unknown long ends = not_unknown (ends (λ e. cc))
+    where
+      not_unknown : EndsQuery found texts query kept Unknown → ⊥
+      not_unknown (inl stops) = stops
+      not_unknown (inr (inl is)) = absurd (cc)
+      not_unknown (inr (inr solved)) = too_long_for Unknown solved long
+  refuses_length (Limit limit.Extensions) long ends = not_many (ends (λ e. cc))
+    where
+      not_many : EndsQuery found texts query kept (Limit limit.Extensions) → ⊥
+      not_many (inl stops) = stops
+      not_many (inr (inl is)) = absurd (cc)
+      not_many (inr (inr solved)) = too_long_for (Limit limit.Extensions) solved long
+  refuses_length (Limit limit.Log) long ends = not_full (ends (λ e. cc))
+    where
+      not_full : EndsQuery found texts query kept (Limit limit.Log) → ⊥
+      not_full (inl stops) = stops
+      not_full (inr (inl is)) = absurd (cc)
+      not_full (inr (inr solved)) = too_long_for (Limit limit.Log) solved long
+  refuses_length WriteFault long ends = tt
+  refuses_length WantOfMemory long ends = tt
+  refuses_length (Limit limit.Input) long ends = tt
 
 -- ---- the laws of other words
 
@@ -198,10 +327,27 @@ done_right found (Some asked) texts kept asks (inr checks) = accepts_right found
 -- an input that reads as something ends no run
 pub no_stop : (found : Reading) (one : Input) (P : List ℕ → Type 0)
     → ((bytes : List ℕ) → P bytes → IsSoundOf one bytes) → HasText found one P → (end : Status) → ¬ StopsAt found end one
-no_stop found one P sound has end =
-    stops_at_line found one has.bytes has.known
-    (λ h. ⊎_elim (λ served. h.unserved served) (λ uncounted. uncounted h.counted) has.no_fault) (λ _. ⊥)
-    (λ r line c is first. sound has.bytes has.reads line c first) end has.within
+no_stop found one P sound has (InputRefused (Line of line c)) stops =
+    sound has.bytes has.reads line c
+    (subst (λ bs. IsFirstFaultOf one bs line c)
+    (bytes_at (found.holds one.file) has.bytes stops.1.bytes has.known stops.1.has) stops.1.first)
+no_stop found one P sound has (InputRefused (Query fault)) stops = stops
+no_stop found one P sound has (InputRefused UnknownName) stops = stops
+no_stop found one P sound has (InputRefused (NoRefutation k)) stops = stops
+no_stop found one P sound has (ReadFault of) stops =
+    ⊎_elim (λ served. stops.1.unserved served) (λ uncounted. uncounted stops.1.counted) has.no_fault
+no_stop found one P sound has (Limit limit.Input) stops =
+    let long = longer_at (found.holds one.file) has.bytes has.known stops in
+    let short = has.within in
+    omega arith
+no_stop found one P sound has (Limit limit.Extensions) stops = stops
+no_stop found one P sound has (Limit limit.Log) stops = stops
+no_stop found one P sound has Unknown stops = stops
+no_stop found one P sound has Done stops = stops
+no_stop found one P sound has Usage stops = stops
+no_stop found one P sound has WriteFault stops = stops
+no_stop found one P sound has WantOfMemory stops = stops
+no_stop found one P sound has (Rejected rejection) stops = stops
 
 check_end : (f : AnyFramework) (asked : Asked) (answer : Answer) (certificate : Certificate) (end : Status)
     → CheckEnds f asked answer certificate end → IsCheckEnd f asked answer certificate end
@@ -383,19 +529,55 @@ module _ (found : Reading) (words : List (List ℕ)) (texts : LiveTexts) (budget
   script_read : ¬ HasReadFault found (input OfScript texts.script)
   script_read h = ⊎_elim (λ served. h.unserved served) (λ uncounted. uncounted h.counted) asks.no_fault
 
+  stops_at_script : (end : Status) → length bytes ≤ MAX_INPUT → StopsAt found end (input OfScript texts.script)
+      → RefusesBytes OfScript bytes end
+  stops_at_script (InputRefused (Line of line c)) short stops =
+      (stops.0, first_at found (input OfScript texts.script) bytes line c asks.known stops.1)
+  stops_at_script (InputRefused (Query fault)) short stops = stops
+  stops_at_script (InputRefused UnknownName) short stops = stops
+  stops_at_script (InputRefused (NoRefutation k)) short stops = stops
+  stops_at_script (ReadFault of) short stops = absurd (script_read stops.1)
+  stops_at_script (Limit limit.Input) short stops =
+      let long = longer_at (found.holds texts.script) bytes asks.known stops in absurd (omega arith)
+  stops_at_script (Limit limit.Extensions) short stops = stops
+  stops_at_script (Limit limit.Log) short stops = stops
+  stops_at_script Done short stops = stops
+  stops_at_script Usage short stops = stops
+  stops_at_script WriteFault short stops = tt
+  stops_at_script WantOfMemory short stops = tt
+  stops_at_script Unknown short stops = stops
+  stops_at_script (Rejected rejection) short stops = stops
+
   -- faulty bytes within the limit are refused by their first fault
   pub refuses_script : (end : Status) → IsFaultyScript bytes → length bytes ≤ MAX_INPUT
       → EndsLiving found texts budget kept end → RefusesBytes OfScript bytes end
   refuses_script end faulty short (inl (inl stops)) =
       absurd (no_stop found (input (Framework 1) texts.file) _
       (λ bs reads. framework_sound bs f reads) asks.of_framework end stops.0)
-  refuses_script end faulty short (inl (inr (passed, inl stops))) =
-      stops_at_line found (input OfScript texts.script) bytes asks.known script_read (RefusesBytes OfScript bytes)
-      (λ r line c is first. (is, first)) end short stops.0
+  refuses_script end faulty short (inl (inr (passed, inl stops))) = stops_at_script end short stops.0
   refuses_script end faulty short (inl (inr (passed, inr stops))) = absurd stops.1
   refuses_script end faulty short (inr (inl is)) =
       let P : Status → Type 0 = RefusesBytes OfScript bytes in subst P (sym is) tt
   refuses_script end faulty short (inr (inr lives)) = absurd (no_script end lives faulty)
+
+  stops_at_length : (end : Status) → MAX_INPUT < length bytes → StopsAt found end (input OfScript texts.script)
+      → RefusesLength end
+  stops_at_length (InputRefused (Line of line c)) long stops =
+      let short = within_at (found.holds texts.script) bytes stops.1.bytes asks.known stops.1.has in absurd
+      (omega arith)
+  stops_at_length (InputRefused (Query fault)) long stops = stops
+  stops_at_length (InputRefused UnknownName) long stops = stops
+  stops_at_length (InputRefused (NoRefutation k)) long stops = stops
+  stops_at_length (ReadFault of) long stops = absurd (script_read stops.1)
+  stops_at_length (Limit limit.Input) long stops = tt
+  stops_at_length (Limit limit.Extensions) long stops = stops
+  stops_at_length (Limit limit.Log) long stops = stops
+  stops_at_length Done long stops = stops
+  stops_at_length Usage long stops = stops
+  stops_at_length WriteFault long stops = tt
+  stops_at_length WantOfMemory long stops = tt
+  stops_at_length Unknown long stops = stops
+  stops_at_length (Rejected rejection) long stops = stops
 
   -- bytes over the limit are refused for their length
   pub refuses_long_script : (end : Status) → MAX_INPUT < length bytes → EndsLiving found texts budget kept end
@@ -403,8 +585,7 @@ module _ (found : Reading) (words : List (List ℕ)) (texts : LiveTexts) (budget
   refuses_long_script end long (inl (inl stops)) =
       absurd (no_stop found (input (Framework 1) texts.file) _
       (λ bs reads. framework_sound bs f reads) asks.of_framework end stops.0)
-  refuses_long_script end long (inl (inr (passed, inl stops))) =
-      stops_at_length found (input OfScript texts.script) bytes asks.known script_read end long stops.0
+  refuses_long_script end long (inl (inr (passed, inl stops))) = stops_at_length end long stops.0
   refuses_long_script end long (inl (inr (passed, inr stops))) = absurd stops.1
   refuses_long_script end long (inr (inl is)) = subst RefusesLength (sym is) tt
   refuses_long_script end long (inr (inr lives)) = absurd (no_long_script end lives long)

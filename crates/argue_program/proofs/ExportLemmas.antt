@@ -29,7 +29,7 @@ use Rattle.argue_commands.specs.declared.ended.Rejection.TheVariants as rejectio
 use Rattle.argue_commands.specs.declared.ended.Status.{Status}
 use Rattle.argue_commands.specs.declared.ended.Status.TheVariants.{Done, Usage, InputRefused, ReadFault, WriteFault}
 use Rattle.argue_commands.specs.declared.ended.Status.TheVariants.{WantOfMemory, Unknown, Limit, Rejected}
-use Rattle.argue_commands.proofs.CheckLemmas.{answer_sound, certificate_sound, files_follow, framework_sound}
+use Rattle.argue_commands.proofs.CheckLemmas.{answer_sound, certificate_sound, framework_sound}
 use Rattle.argue_commands.proofs.KnownLemmas.{bytes_at}
 use Rattle.lrat_commands.specs.Exporting.{EndsExporting, ExportEnds, ExportsFiles, IsExported, exported_files}
 use Rattle.lrat_commands.specs.Exporting.{HasNoRefutation, HasRefutation, exported_text, exporting_by}
@@ -107,17 +107,25 @@ module _ (found : Reading) (by : Option Exporting) (texts : ExportTexts) (ending
       let row = export_row found.holds (Some wanted) texts in
       let writes : WritesExport found.holds wanted texts (text_bytes ending.text) (map file_text ending.files) =
       record { exported = exported; is = exports; text_is = text; files_are = files } in
-      let ends : ExportsFiles found.holds wanted texts.check Done =
-      files_follow found.holds texts.check _ (λ framework answer certificate.
-      ExportEnds framework wanted.query answer certificate wanted.number Done) exports (λ f answer certificate of. (
-        of.0,
-        (
-          (let at = of.1.number_is in omega arith),
-          (let at = of.1.number_is in let in_range = of.1.within in omega arith),
-        ),
-      )) in
       subst IsExportEnding (sym is) (record {
-        cause = rw status (rw kept (inr (refl, ends)));
+        cause = rw status (rw kept (inr (
+          refl,
+          record {
+            framework = exports.framework;
+            answer = exports.answer;
+            certificate = exports.certificate;
+            of_framework = exports.of_framework;
+            of_answer = exports.of_answer;
+            of_certificate = exports.of_certificate;
+            ends = (
+              exports.accepts,
+              (
+                (let at = exports.text.number_is in omega arith),
+                (let at = exports.text.number_is in let in_range = exports.text.within in omega arith),
+              ),
+            );
+          },
+        )));
         text = text_done ending.status (row.Says ending.kept ending.status) (text_bytes ending.text) status
             (map file_text ending.files, writes);
         files = files_done ending.status (row.Writes ending.kept ending.status (text_bytes ending.text))

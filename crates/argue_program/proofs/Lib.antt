@@ -5,7 +5,6 @@ mod LargeLemmas
 mod LratLemmas
 mod NamesLemmas
 mod ScriptLemmas
-mod StopLemmas
 mod WhyLemmas
 pub mod KeptLemmas
 pub mod RowsLemmas

@@ -1,24 +1,23 @@
 -- How a check of a CNF with its refutation ends as its row says, and what follows.
-use Rattle.std.proofs.Common.{◌≡◌, ◌≢◌, ◌∙◌, ◌⊎◌, ◌<◌, ◌≤◌, ℕ, List, [], codes, length, refl, sym, subst, inl, inr}
-use Rattle.std.proofs.Common.{⊎_elim, arith, Some}
+use Rattle.std.proofs.Common.{◌≡◌, ◌≢◌, ◌∙◌, ◌⊎◌, ◌<◌, ◌≤◌, ℕ, List, [], codes, length, refl, sym, subst, inl, inr, ⊎_elim, arith, Some}
 use Rattle.argue_outside.specs.declared.Role.{Role}
 use Rattle.argue_outside.specs.declared.Role.TheVariants as role
 use Rattle.argue_words.specs.Words.{LratTexts}
 use Rattle.num_text.specs.declared.limit.TheConstants.{MAX_INPUT}
 use Rattle.lrat_text.specs.CnfText.{Formula, IsCnfText}
-use Rattle.lrat_commands.specs.Verifying.{EndsVerifying, IsCnfOf, IsUnsatisfiableOf, LratEnds, VerifiesFiles}
-use Rattle.lrat_commands.specs.Verifying.{lrat_inputs}
+use Rattle.lrat_commands.specs.Verifying.{EndsVerifying, IsCnfOf, IsUnsatisfiableOf, LratEnds, VerifiesFiles, lrat_inputs}
 use Rattle.lrat_text.proofs.OneReading.{one_formula, text_no_fault}
 use Rattle.lrat_commands.proofs.VerifyingLemmas.{verified_unsatisfiable}
 use Rattle.argue_commands.specs.Inputs.{HasReadFault, IsSoundOf, Reading, StopsAt, StopsAtFirst, input}
 use Rattle.argue_commands.specs.Texts.{IsRefusal, common_text, text_bytes}
 use Rattle.argue_commands.specs.declared.ended.FaultCause.TheVariants as cause
+use Rattle.argue_commands.specs.declared.ended.Limit.TheVariants as limit
+use Rattle.argue_commands.specs.declared.ended.Refusal.TheVariants.{Line, NoRefutation, Query, UnknownName}
 use Rattle.argue_commands.specs.declared.ended.Status.{Status}
 use Rattle.argue_commands.specs.declared.ended.Status.TheVariants.{Done, Usage, InputRefused, ReadFault, WriteFault}
 use Rattle.argue_commands.specs.declared.ended.Status.TheVariants.{WantOfMemory, Unknown, Limit, Rejected}
 use Rattle.argue_commands.proofs.CheckLemmas.{stops_told}
-use Rattle.argue_commands.proofs.KnownLemmas.{bytes_at, stops_at_line, within_at}
-use Rattle.argue_program.proofs.StopLemmas.{stops_at_length}
+use Rattle.argue_commands.proofs.KnownLemmas.{bytes_at, first_at, longer_at, within_at}
 use Rattle.argue_program.specs.Rows.{CountsReads, EndsCommand, IsEndingOf, lrat_row, nothing_kept}
 use Rattle.argue_program.specs.Runs.{CnfBytes, IsFaultyCnf, IsLratEnd, LratContents, RefusesBytes, RefusesLength}
 use Rattle.argue_program.specs.declared.ended.Transcript.{Transcript}
@@ -150,6 +149,25 @@ module _ (found : Reading) (words : List (List ℕ)) (texts : LratTexts) (bytes 
   lrat_passes end stops =
       no_stop found (input role.Lrat texts.lrat) _ (λ bs is. lrat_sound texts.lrat bs) asks.of_lrat end stops
 
+  stops_at_cnf : (end : Status) → length bytes ≤ MAX_INPUT → StopsAt found end (input role.Cnf texts.cnf)
+      → RefusesBytes role.Cnf bytes end
+  stops_at_cnf (InputRefused (Line of line c)) short stops =
+      (stops.0, first_at found (input role.Cnf texts.cnf) bytes line c asks.known stops.1)
+  stops_at_cnf (InputRefused (Query fault)) short stops = stops
+  stops_at_cnf (InputRefused UnknownName) short stops = stops
+  stops_at_cnf (InputRefused (NoRefutation k)) short stops = stops
+  stops_at_cnf (ReadFault of) short stops = absurd (cnf_read stops.1)
+  stops_at_cnf (Limit limit.Input) short stops =
+      let long = longer_at (found.holds texts.cnf) bytes asks.known stops in absurd (omega arith)
+  stops_at_cnf (Limit limit.Extensions) short stops = stops
+  stops_at_cnf (Limit limit.Log) short stops = stops
+  stops_at_cnf Done short stops = stops
+  stops_at_cnf Usage short stops = stops
+  stops_at_cnf WriteFault short stops = tt
+  stops_at_cnf WantOfMemory short stops = tt
+  stops_at_cnf Unknown short stops = stops
+  stops_at_cnf (Rejected rejection) short stops = stops
+
   no_cnf : (end : Status) → VerifiesFiles found.holds texts end → ¬ IsFaultyCnf bytes
   no_cnf end checks faulty =
       let of = checks.of_cnf in
@@ -167,20 +185,35 @@ module _ (found : Reading) (words : List (List ℕ)) (texts : LratTexts) (bytes 
   -- faulty bytes within the limit are refused by their first fault
   pub refuses_cnf : (end : Status) → IsFaultyCnf bytes → length bytes ≤ MAX_INPUT
       → EndsCommand found (lrat_row found.holds texts) kept end → RefusesBytes role.Cnf bytes end
-  refuses_cnf end faulty short (inl (nothing, inl (inl stops))) =
-      stops_at_line found (input role.Cnf texts.cnf) bytes asks.known cnf_read (RefusesBytes role.Cnf bytes)
-      (λ r line c is first. (is, first)) end short stops.0
+  refuses_cnf end faulty short (inl (nothing, inl (inl stops))) = stops_at_cnf end short stops.0
   refuses_cnf end faulty short (inl (nothing, inl (inr (passed, inl stops)))) = absurd (lrat_passes end stops.0)
   refuses_cnf end faulty short (inl (nothing, inl (inr (passed, inr stops)))) = absurd stops.1
   refuses_cnf end faulty short (inl (nothing, inr memory)) =
       let P : Status → Type 0 = RefusesBytes role.Cnf bytes in subst P (sym memory.0) tt
   refuses_cnf end faulty short (inr ends) = absurd (no_cnf end ends.1 faulty)
 
+  stops_at_length : (end : Status) → MAX_INPUT < length bytes → StopsAt found end (input role.Cnf texts.cnf)
+      → RefusesLength end
+  stops_at_length (InputRefused (Line of line c)) long stops =
+      let short = within_at (found.holds texts.cnf) bytes stops.1.bytes asks.known stops.1.has in absurd (omega arith)
+  stops_at_length (InputRefused (Query fault)) long stops = stops
+  stops_at_length (InputRefused UnknownName) long stops = stops
+  stops_at_length (InputRefused (NoRefutation k)) long stops = stops
+  stops_at_length (ReadFault of) long stops = absurd (cnf_read stops.1)
+  stops_at_length (Limit limit.Input) long stops = tt
+  stops_at_length (Limit limit.Extensions) long stops = stops
+  stops_at_length (Limit limit.Log) long stops = stops
+  stops_at_length Done long stops = stops
+  stops_at_length Usage long stops = stops
+  stops_at_length WriteFault long stops = tt
+  stops_at_length WantOfMemory long stops = tt
+  stops_at_length Unknown long stops = stops
+  stops_at_length (Rejected rejection) long stops = stops
+
   -- bytes over the limit are refused for their length
   pub refuses_long_cnf : (end : Status) → MAX_INPUT < length bytes
       → EndsCommand found (lrat_row found.holds texts) kept end → RefusesLength end
-  refuses_long_cnf end long (inl (nothing, inl (inl stops))) =
-      stops_at_length found (input role.Cnf texts.cnf) bytes asks.known cnf_read end long stops.0
+  refuses_long_cnf end long (inl (nothing, inl (inl stops))) = stops_at_length end long stops.0
   refuses_long_cnf end long (inl (nothing, inl (inr (passed, inl stops)))) = absurd (lrat_passes end stops.0)
   refuses_long_cnf end long (inl (nothing, inl (inr (passed, inr stops)))) = absurd stops.1
   refuses_long_cnf end long (inl (nothing, inr memory)) = subst RefusesLength (sym memory.0) tt

@@ -1,5 +1,5 @@
 -- How a query by names, and the making of a text with numbers, may end.
-use Rattle.std.proofs.Common.{◌≡◌, ◌⊎◌, ◌<◌, ◌≤◌, ℕ, List, length, ap, sym, subst, inl, inr, arith, Option, Some}
+use Rattle.std.proofs.Common.{◌≡◌, ◌⊎◌, ◌<◌, ◌≤◌, ℕ, List, length, ap, sym, subst, inl, inr, ⊎_elim, arith, Option, Some}
 use Rattle.std.specs.Prelude.{Contains}
 use Rattle.argue_outside.specs.Outside.{KnownFile}
 use Rattle.argue_outside.specs.declared.Role.TheVariants.{Framework}
@@ -9,14 +9,15 @@ use Rattle.semantics.specs.Frameworks.{af}
 use Rattle.apx_tgf.specs.NamedText.{ReadsAs}
 use Rattle.apx_tgf.specs.declared.format.NameFormat.{NameFormat}
 use Rattle.apx_tgf.proofs.TextLemmas.{ReadsAs-faultless, ReadsAs-same}
-use Rattle.argue_commands.specs.Inputs.{HasBytes, HasReadFault, IsSoundOf, Reading, StopsAt, named_input}
+use Rattle.argue_commands.specs.Inputs.{HasReadFault, IsSoundOf, Reading, StopsAt, named_input}
 use Rattle.argue_commands.specs.Solves.{IsSessionOf}
 use Rattle.argue_commands.specs.declared.ended.FaultCause.TheVariants as cause
+use Rattle.argue_commands.specs.declared.ended.Limit.TheVariants as limit
+use Rattle.argue_commands.specs.declared.ended.Refusal.TheVariants.{Line, NoRefutation, Query, UnknownName}
 use Rattle.argue_commands.specs.declared.ended.Status.{Status}
 use Rattle.argue_commands.specs.declared.ended.Status.TheVariants.{Done, Usage, InputRefused, ReadFault, WriteFault}
 use Rattle.argue_commands.specs.declared.ended.Status.TheVariants.{WantOfMemory, Unknown, Limit, Rejected}
-use Rattle.argue_commands.proofs.KnownLemmas.{bytes_at, stops_at_line, within_at}
-use Rattle.argue_program.proofs.StopLemmas.{stops_at_length}
+use Rattle.argue_commands.proofs.KnownLemmas.{bytes_at, first_at, longer_at, within_at}
 use Rattle.named_commands.specs.Namings.{AnswersNamedFile, IsAskedBy, IsNamedOf, IsUnknown, solving_of}
 use Rattle.named_commands.specs.declared.naming.Naming.{Naming}
 use Rattle.num_text.specs.declared.limit.TheConstants.{MAX_INPUT}
@@ -161,24 +162,32 @@ abbrev pub EndsInFormat : Reading → NameFormat → List ℕ → Status → Typ
 EndsInFormat found format file end =
     StopsAt found end (named_input format file) ⊎ ((end ≡ WantOfMemory) ⊎ IsNamed (found.holds file) format)
 
-named_in : (found : Reading) (format : NameFormat) (file : List ℕ) (end : Status) (names : List (List ℕ)) (f : Af)
-    (bytes : List ℕ) → HasBytes (found.holds file) bytes → ReadsAs format bytes names f
-    → EndsInFormat found format file end
-named_in found format file end names f bytes has reads =
-    inr (inr (names, f, record { bytes = bytes; has = has; reads = reads }))
-
 pub asking_in : (found : Reading) (texts : NamesTexts) (naming : Naming) (kept : Transcript) (end : Status)
     → EndsAsking found texts naming kept end → EndsInFormat found naming.format texts.file end
 asking_in found texts naming kept end (inl stops) = inl stops
 asking_in found texts naming kept end (inr (inl is)) = inr (inl is)
 asking_in found texts naming kept end (inr (inr (inl named))) =
     let file = named.answers in
-    named_in found naming.format texts.file end file.answers.names file.answers.framework file.bytes file.has
-    file.answers.reads
+    inr (inr (
+      file.answers.names,
+      file.answers.framework,
+      record {
+        bytes = file.bytes;
+        has = file.has;
+        reads = file.answers.reads;
+      },
+    ))
 asking_in found texts naming kept end (inr (inr (inr unnamed))) =
     let file = unnamed.asks in
-    named_in found naming.format texts.file end file.asks.names file.asks.framework file.bytes file.has
-    file.asks.reads
+    inr (inr (
+      file.asks.names,
+      file.asks.framework,
+      record {
+        bytes = file.bytes;
+        has = file.has;
+        reads = file.asks.reads;
+      },
+    ))
 
 pub numbering_in : (found : Reading) (texts : AfTexts) (format : NameFormat) (kept : Transcript) (end : Status)
     → EndsNumbering found texts format kept end → EndsInFormat found format texts.file end
@@ -186,28 +195,69 @@ numbering_in found texts format kept end (inl stops) = inl stops
 numbering_in found texts format kept end (inr (inl is)) = inr (inl is)
 numbering_in found texts format kept end (inr (inr numbered)) =
     let file = numbered.is in
-    named_in found format texts.file end file.is.names file.is.framework file.bytes file.has
-    file.is.reads
+    inr (inr (
+      file.is.names,
+      file.is.framework,
+      record {
+        bytes = file.bytes;
+        has = file.has;
+        reads = file.is.reads;
+      },
+    ))
 
 module _ (found : Reading) (format : NameFormat) (file bytes : List ℕ) (known : found.holds file ≡ Some (Some bytes))
     (read : ¬ HasReadFault found (named_input format file)) where
+  stops_at_line : (end : Status) → length bytes ≤ MAX_INPUT → StopsAt found end (named_input format file)
+      → RefusesNamed format bytes end
+  stops_at_line (InputRefused (Line of line c)) short stops =
+      (stops.0, first_at found (named_input format file) bytes line c known stops.1)
+  stops_at_line (InputRefused (Query fault)) short stops = stops
+  stops_at_line (InputRefused UnknownName) short stops = stops
+  stops_at_line (InputRefused (NoRefutation k)) short stops = stops
+  stops_at_line (ReadFault of) short stops = absurd (read stops.1)
+  stops_at_line (Limit limit.Input) short stops =
+      let long = longer_at (found.holds file) bytes known stops in absurd (omega arith)
+  stops_at_line (Limit limit.Extensions) short stops = stops
+  stops_at_line (Limit limit.Log) short stops = stops
+  stops_at_line Done short stops = stops
+  stops_at_line Usage short stops = stops
+  stops_at_line WriteFault short stops = tt
+  stops_at_line WantOfMemory short stops = tt
+  stops_at_line Unknown short stops = stops
+  stops_at_line (Rejected rejection) short stops = stops
+
   -- faulty bytes within the limit are refused by their first fault
   pub refuses_named : (end : Status) → IsFaultyNamed format bytes → length bytes ≤ MAX_INPUT
       → EndsInFormat found format file end → RefusesNamed format bytes end
-  refuses_named end faulty short (inl stops) =
-      stops_at_line found (named_input format file) bytes known read (RefusesNamed format bytes)
-      (λ r line c is first. (is, first)) end short stops
+  refuses_named end faulty short (inl stops) = stops_at_line end short stops
   refuses_named end faulty short (inr (inl is)) =
       let P : Status → Type 0 = RefusesNamed format bytes in subst P (sym is) tt
   refuses_named end faulty short (inr (inr named)) =
       let reads = reads_at (found.holds file) format bytes named.0 named.1 known named.2 in
       absurd (ReadsAs-faultless format bytes named.0 named.1 reads faulty.0 faulty.1 faulty.2)
 
+  stops_at_length : (end : Status) → MAX_INPUT < length bytes → StopsAt found end (named_input format file)
+      → RefusesLength end
+  stops_at_length (InputRefused (Line of line c)) long stops =
+      let short = within_at (found.holds file) bytes stops.1.bytes known stops.1.has in absurd (omega arith)
+  stops_at_length (InputRefused (Query fault)) long stops = stops
+  stops_at_length (InputRefused UnknownName) long stops = stops
+  stops_at_length (InputRefused (NoRefutation k)) long stops = stops
+  stops_at_length (ReadFault of) long stops = absurd (read stops.1)
+  stops_at_length (Limit limit.Input) long stops = tt
+  stops_at_length (Limit limit.Extensions) long stops = stops
+  stops_at_length (Limit limit.Log) long stops = stops
+  stops_at_length Done long stops = stops
+  stops_at_length Usage long stops = stops
+  stops_at_length WriteFault long stops = tt
+  stops_at_length WantOfMemory long stops = tt
+  stops_at_length Unknown long stops = stops
+  stops_at_length (Rejected rejection) long stops = stops
+
   -- bytes over the limit are refused for their length
   pub refuses_long_names : (end : Status) → MAX_INPUT < length bytes → EndsInFormat found format file end
       → RefusesLength end
-  refuses_long_names end long (inl stops) =
-      stops_at_length found (named_input format file) bytes known read end long stops
+  refuses_long_names end long (inl stops) = stops_at_length end long stops
   refuses_long_names end long (inr (inl is)) = subst RefusesLength (sym is) tt
   refuses_long_names end long (inr (inr named)) =
       let short = within_at (found.holds file) bytes named.2.bytes known named.2.has in absurd (omega arith)

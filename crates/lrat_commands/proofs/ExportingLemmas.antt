@@ -10,7 +10,6 @@ use Rattle.certificate_claims.specs.declared.certificate.Certificate.{Certificat
 use Rattle.edit_rules.specs.Kinds.{framework_of}
 use Rattle.refutation_logs.specs.declared.texts.Exported.{Exported}
 use Rattle.argue_commands.specs.Checks.{AcceptsFiles, CheckEnds, EndsChecking}
-use Rattle.argue_commands.proofs.CheckLemmas.{files_follow, files_read}
 use Rattle.argue_commands.specs.Inputs.{Reading}
 use Rattle.argue_commands.specs.Texts.{common_text}
 use Rattle.argue_commands.specs.declared.checking.Checked.{Checked}
@@ -18,7 +17,7 @@ use Rattle.argue_commands.specs.declared.ended.Refusal.TheVariants.{Line, NoRefu
 use Rattle.argue_commands.specs.declared.ended.Status.{Status}
 use Rattle.argue_commands.specs.declared.ended.Status.TheVariants.{Done, Usage, InputRefused, ReadFault, WriteFault}
 use Rattle.argue_commands.specs.declared.ended.Status.TheVariants.{WantOfMemory, Unknown, Limit, Rejected}
-use Rattle.lrat_commands.specs.Exporting.{EndsExporting, ExportEnds, IsExported, IsTextFrom, IsTextOf}
+use Rattle.lrat_commands.specs.Exporting.{EndsExporting, ExportEnds, IsExported, IsTextFrom}
 use Rattle.lrat_commands.specs.declared.exporting.Exporting.{Exporting}
 
 -- what ends the check before it is done ends the export
@@ -42,18 +41,31 @@ pub check_ends : (found : Reading) (exporting : Exporting) (texts : CheckTexts) 
     → IsSome (common_text end) → EndsChecking found exporting.query texts end → EndsExporting found exporting texts end
 check_ends found exporting texts end told (inl stops) = inl stops
 check_ends found exporting texts end told (inr (inl memory)) = inr (inl memory)
-check_ends found exporting texts end told (inr (inr checks)) = inr (inr (files_follow found.holds texts _
-    (λ framework answer certificate. ExportEnds framework exporting.query answer certificate exporting.number end) checks
-    (λ f answer certificate. check_stops f exporting.query answer certificate exporting.number end told)))
+check_ends found exporting texts end told (inr (inr checks)) = inr (inr (record {
+  framework = checks.framework;
+  answer = checks.answer;
+  certificate = checks.certificate;
+  of_framework = checks.of_framework;
+  of_answer = checks.of_answer;
+  of_certificate = checks.of_certificate;
+  ends = check_stops checks.framework exporting.query checks.answer checks.certificate exporting.number end told
+      checks.ends;
+}))
 
 -- what is said of what was read is said of the files
 pub exported_ok : (holds : List ℕ → KnownFile) (exporting : Exporting) (texts : CheckTexts) (read : Checked)
     (r : Result Exported Status) → AcceptsFiles holds exporting.query texts read
     → IfOk r (IsTextFrom read exporting) → IfOk r (IsExported holds exporting texts)
-exported_ok holds exporting texts read (Ok e) accepts is =
-    files_read holds exporting.query texts read (λ framework answer certificate.
-    CheckEnds framework exporting.query answer certificate Done
-    × IsTextOf framework exporting.query answer certificate exporting.number e) accepts (accepts.accepts, is)
+exported_ok holds exporting texts read (Ok e) accepts is = record {
+  framework = framework_of read.framework;
+  answer = read.answer;
+  certificate = read.certificate;
+  of_framework = accepts.of_framework;
+  of_answer = accepts.of_answer;
+  of_certificate = accepts.of_certificate;
+  accepts = accepts.accepts;
+  text = is;
+}
 exported_ok holds exporting texts read (Err end) accepts is = tt
 
 pub exported_err : (found : Reading) (exporting : Exporting) (texts : CheckTexts) (read : Checked)
@@ -63,6 +75,12 @@ pub exported_err : (found : Reading) (exporting : Exporting) (texts : CheckTexts
     → IfErr r (EndsExporting found exporting texts)
 exported_err found exporting texts read (Ok e) accepts ends = tt
 exported_err found exporting texts read (Err end) accepts (inl memory) = inr (inl memory)
-exported_err found exporting texts read (Err end) accepts (inr ends) =
-    inr (inr (files_read found.holds exporting.query texts read (λ framework answer certificate.
-    ExportEnds framework exporting.query answer certificate exporting.number end) accepts ends))
+exported_err found exporting texts read (Err end) accepts (inr ends) = inr (inr (record {
+  framework = framework_of read.framework;
+  answer = read.answer;
+  certificate = read.certificate;
+  of_framework = accepts.of_framework;
+  of_answer = accepts.of_answer;
+  of_certificate = accepts.of_certificate;
+  ends = ends;
+}))

@@ -12,8 +12,8 @@ use Rattle.certificate_claims.specs.declared.certificate.Certificate.{Certificat
 use Rattle.edit_rules.specs.Kinds.{framework_of}
 use Rattle.refutation_logs.specs.Exports.{IsExportOf}
 use Rattle.refutation_logs.specs.declared.texts.Exported.{Exported}
-use Rattle.argue_commands.specs.Checks.{CheckEnds, ReadsFiles, check_inputs}
-use Rattle.argue_commands.specs.Inputs.{Reading, StopsAtFirst}
+use Rattle.argue_commands.specs.Checks.{CheckEnds, IsAnswerOf, IsCertificateOf, check_inputs}
+use Rattle.argue_commands.specs.Inputs.{IsFrameworkOf, Reading, StopsAtFirst}
 use Rattle.argue_commands.specs.Queries.{asked_by, number_of}
 use Rattle.argue_commands.specs.Replacing.{FileText}
 use Rattle.argue_commands.specs.declared.checking.Checked.{Checked}
@@ -53,9 +53,15 @@ ExportEnds f asked answer certificate number (InputRefused (NoRefutation k)) =
 ExportEnds f asked answer certificate number end = CheckEnds f asked answer certificate end
 
 -- an export of what the files read as ends so
-abbrev pub ExportsFiles : (List ℕ → KnownFile) → Exporting → CheckTexts → Status → Type 0
-ExportsFiles holds exporting texts end = ReadsFiles holds texts
-    (λ framework answer certificate. ExportEnds framework exporting.query answer certificate exporting.number end)
+pub record ExportsFiles (holds : List ℕ → KnownFile) (exporting : Exporting) (texts : CheckTexts) (end : Status) : Type 0
+  where
+    pub framework : Framework
+    pub answer : Answer
+    pub certificate : Certificate
+    pub of_framework : IsFrameworkOf (holds texts.file) framework
+    pub of_answer : IsAnswerOf (holds texts.answer) answer
+    pub of_certificate : IsCertificateOf (holds texts.certificate) certificate
+    pub ends : ExportEnds framework exporting.query answer certificate exporting.number end
 
 -- how an export may end: by reading the files, for want of memory, or as it ends on what they read as
 abbrev pub EndsExporting : Reading → Exporting → CheckTexts → Status → Type 0
@@ -80,10 +86,16 @@ IsTextFrom read exporting exported =
 
 -- the files read as a framework, an answer and a certificate that is accepted for it, and these are the texts of the
 -- refutation of the number in it
-abbrev pub IsExported : (List ℕ → KnownFile) → Exporting → CheckTexts → Exported → Type 0
-IsExported holds exporting texts exported = ReadsFiles holds texts (λ framework answer certificate.
-    CheckEnds framework exporting.query answer certificate Done
-    × IsTextOf framework exporting.query answer certificate exporting.number exported)
+pub record IsExported (holds : List ℕ → KnownFile) (exporting : Exporting) (texts : CheckTexts) (exported : Exported)
+    : Type 0 where
+  pub framework : Framework
+  pub answer : Answer
+  pub certificate : Certificate
+  pub of_framework : IsFrameworkOf (holds texts.file) framework
+  pub of_answer : IsAnswerOf (holds texts.answer) answer
+  pub of_certificate : IsCertificateOf (holds texts.certificate) certificate
+  pub accepts : CheckEnds framework exporting.query answer certificate Done
+  pub text : IsTextOf framework exporting.query answer certificate exporting.number exported
 
 -- ---- what is written
 

@@ -1,6 +1,5 @@
 -- How a query by names, and the making of a text with numbers, end on the bytes of a file.
-use Rattle.std.proofs.Common.{◌≡◌, ◌≢◌, ◌≤◌, ℕ, List, length, refl, sym, subst, inl, inr, true, Option, Some, None}
-use Rattle.std.proofs.Common.{Result, Ok, Err}
+use Rattle.std.proofs.Common.{◌≡◌, ◌≢◌, ◌≤◌, ℕ, List, length, refl, sym, subst, inl, inr, true, Option, Some, None, Result, Ok, Err}
 use Rattle.std.specs.Prelude.{Contains, IfErr, IfOk, IsSome}
 use Rattle.argue_outside.specs.Outside.{KnownFile}
 use Rattle.argue_outside.specs.declared.Role.TheVariants.{Framework}
@@ -17,18 +16,16 @@ use Rattle.apx_tgf.specs.declared.format.NameFormat.{NameFormat}
 use Rattle.argue_commands.specs.Inputs.{EndsReading, HasBytes, IsUnrefused, Reading, StopsAt, input, named_input}
 use Rattle.argue_commands.specs.Texts.{common_text}
 use Rattle.argue_commands.specs.declared.ended.KeptSession.{KeptSession}
+use Rattle.argue_commands.specs.declared.ended.Limit.TheVariants as limit
 use Rattle.argue_commands.specs.declared.ended.Refusal.TheVariants.{Line, NoRefutation, Query, UnknownName}
 use Rattle.argue_commands.specs.declared.ended.Status.{Status}
 use Rattle.argue_commands.specs.declared.ended.Status.TheVariants.{Done, Usage, InputRefused, ReadFault, WriteFault}
 use Rattle.argue_commands.specs.declared.ended.Status.TheVariants.{WantOfMemory, Unknown, Limit, Rejected}
 use Rattle.argue_commands.proofs.InputLemmas.{follow_none}
-use Rattle.named_commands.specs.Namings.{AnswersNamed, AnswersNamedFile, AsksUnknown, EndsNaming, IsNumberAsked}
-use Rattle.named_commands.specs.Namings.{IsUnknown}
+use Rattle.named_commands.specs.Namings.{AnswersNamed, AnswersNamedFile, AsksUnknown, EndsNaming, IsNumberAsked, IsUnknown}
 use Rattle.named_commands.specs.Namings.{StopsNaming, fits_name, names_status}
 use Rattle.named_commands.specs.Numberings.{IsNumbered, IsNumberedOf, StopsNumbering}
 use Rattle.named_commands.specs.declared.naming.Naming.{Naming}
-use Rattle.argue_commands.proofs.CheckLemmas.{not_done_told}
-use Rattle.argue_commands.proofs.KnownLemmas.{at_stop}
 
 -- ---- queries
 
@@ -79,12 +76,26 @@ unknown_stops bytes naming name names f end reads is =
 pub named_reading : (found : Reading) (format : NameFormat) (file : List ℕ) (end : Status)
     → EndsReading found (input (Framework 1) file) end → IsUnrefused end
     → EndsReading found (named_input format file) end
-named_reading found format file end (inl stops) h =
-    inl (at_stop found (input (Framework 1) file) (λ e. IsUnrefused e → StopsAt found e (named_input format file))
-    (λ r line c is first other. absurd other)
-    (λ r is read other. (is, record { counted = read.counted; unserved = read.unserved }))
-    (λ longer other. longer) end stops h)
-named_reading found format file end (inr memory) h = inr memory
+named_reading found format file (InputRefused refusal) ends h = absurd h
+named_reading found format file (ReadFault of) (inl stops) h =
+    inl (stops.0, record { counted = stops.1.counted; unserved = stops.1.unserved })
+named_reading found format file (Limit limit.Input) (inl stops) h = inl stops
+named_reading found format file (Limit limit.Extensions) (inl stops) h = absurd stops
+named_reading found format file (Limit limit.Log) (inl stops) h = absurd stops
+named_reading found format file Done (inl stops) h = absurd stops
+named_reading found format file Usage (inl stops) h = absurd stops
+named_reading found format file WriteFault (inl stops) h = absurd stops
+named_reading found format file WantOfMemory (inl stops) h = absurd stops
+named_reading found format file Unknown (inl stops) h = absurd stops
+named_reading found format file (Rejected rejection) (inl stops) h = absurd stops
+named_reading found format file (ReadFault of) (inr memory) h = inr memory
+named_reading found format file (Limit l) (inr memory) h = inr memory
+named_reading found format file Done (inr memory) h = inr memory
+named_reading found format file Usage (inr memory) h = inr memory
+named_reading found format file WriteFault (inr memory) h = inr memory
+named_reading found format file WantOfMemory (inr memory) h = inr memory
+named_reading found format file Unknown (inr memory) h = inr memory
+named_reading found format file (Rejected rejection) (inr memory) h = inr memory
 
 module _ (found : Reading) (file bytes : List ℕ) (has : HasBytes (found.holds file) bytes) where
   text_ends : (naming : Naming) (texts : NamesTexts) (end : Status) → texts.file ≡ file
@@ -135,15 +146,26 @@ module _ (found : Reading) (file bytes : List ℕ) (has : HasBytes (found.holds 
 
 -- ---- statuses
 
+told_unless : (end : Status) → end ≢ Done → IsSome (common_text end)
+told_unless Done other = absurd (other refl)
+told_unless Usage other = refl
+told_unless (InputRefused refusal) other = refl
+told_unless (ReadFault of) other = refl
+told_unless WriteFault other = refl
+told_unless WantOfMemory other = refl
+told_unless Unknown other = refl
+told_unless (Limit l) other = refl
+told_unless (Rejected rejection) other = refl
+
 -- a run that stopped has a text of its own
 pub naming_told : {T : Type 0} (bytes : List ℕ) (naming : Naming) (name : Option (List ℕ)) (r : Result T Status)
     → IfErr r (StopsNaming bytes naming name) → IfErr r (λ end. IsSome (common_text end))
 naming_told bytes naming name (Ok x) stops = tt
 naming_told bytes naming name (Err end) stops =
-    not_done_told end (λ is. let P : Status → Type 0 = StopsNaming bytes naming name in subst P is stops)
+    told_unless end (λ is. let P : Status → Type 0 = StopsNaming bytes naming name in subst P is stops)
 
 pub numbering_told : {T : Type 0} (format : NameFormat) (bytes : List ℕ) (r : Result T Status)
     → IfErr r (StopsNumbering format bytes) → IfErr r (λ end. IsSome (common_text end))
 numbering_told format bytes (Ok x) stops = tt
 numbering_told format bytes (Err end) stops =
-    not_done_told end (λ is. let P : Status → Type 0 = StopsNumbering format bytes in subst P is stops)
+    told_unless end (λ is. let P : Status → Type 0 = StopsNumbering format bytes in subst P is stops)
