@@ -5,4 +5,5 @@ pub mod Lines
 pub mod LratText
 pub mod Numbers
 pub mod Spelling
+pub mod Tables
 pub mod Unsatisfiable
