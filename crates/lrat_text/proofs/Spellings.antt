@@ -14,6 +14,7 @@ use Rattle.meaning_atoms.specs.declared.atom.AtomLit.{AtomLit}
 use Rattle.meaning_atoms.specs.Literals.{negated}
 use Rattle.meaning_atoms.proofs.SameAtoms.{same_literal}
 use Rattle.clause_bench.specs.Benches.{Takes as Bench_takes}
+use Rattle.lrat_text.specs.declared.cnf.TheConstants.{MAX_VARIABLE}
 use Rattle.lrat_text.specs.CnfText.{formula}
 use Rattle.lrat_text.specs.Checking.{IsRejected}
 use Rattle.lrat_text.specs.Spelling.{spelled, spelled_clause, spelled_clauses, lit_of, clause_of, clauses_of, IsSpelled, AreSpelled}
@@ -133,12 +134,18 @@ spelled_takes vars before after given clause hints false all same h =
 
 -- the clauses stay spelled
 pub still_spelled : (vars : ℕ) (before after : List (List AtomLit)) (given : List AtomLit) (clause : List Lit)
-    (P : Type 0) (passes : Bool) → IsSpelledTable vars before → given ≡ spelled_clause clause
-    → Bench_takes P before given after passes → IsSpelledTable vars after
-still_spelled vars before after given clause P true table same h = record {
-  few = table.few;
-  spelled = subst (λ x. AreSpelled x) (sym (h.1 ∙ ap (λ x. before ++ x ∷ []) same))
-      (more_spelled before clause table.spelled);
+    (P : Type 0) (passes : Bool) → vars ≤ MAX_VARIABLE → AreSpelled before → given ≡ spelled_clause clause
+    → Bench_takes P before given after passes → IsSpelledTable vars true after
+still_spelled vars before after given clause P true few all same h = record {
+  few = few;
+  spelled = λ e. subst (λ x. AreSpelled x) (sym (h.1 ∙ ap (λ x. before ++ x ∷ []) same))
+      (more_spelled before clause all);
 }
-still_spelled vars before after given clause P false table same h =
-    subst (λ x. IsSpelledTable vars x) (sym h.1) table
+still_spelled vars before after given clause P false few all same h = record {
+  few = few;
+  spelled = λ e. subst (λ x. AreSpelled x) (sym h.1) all;
+}
+
+-- while a clause is added nothing is told of the clauses
+pub cut_off : (vars : ℕ) (clauses : List (List AtomLit)) → vars ≤ MAX_VARIABLE → IsSpelledTable vars false clauses
+cut_off vars clauses few = record { few = few; spelled = λ e. let no : false ≡ true = e in absurd (cc) }

@@ -32,10 +32,10 @@ pub record IsPlain (vars : ℕ) (clauses : List (List Lit)) (truths : List Lit) 
   pub below : HaveRoomFor room clauses
   pub idle : truths ≡ []
 
--- each clause over atoms stands for one over variables
-pub record IsSpelledTable (vars : ℕ) (clauses : List (List AtomLit)) : Type 0 where
+-- each clause over atoms stands for one over variables, where no addition was cut off
+pub record IsSpelledTable (vars : ℕ) (whole : Bool) (clauses : List (List AtomLit)) : Type 0 where
   pub few : vars ≤ MAX_VARIABLE
-  pub spelled : AreSpelled clauses
+  pub spelled : whole ≡ true → AreSpelled clauses
 
 -- the state of the check, by the ids of the lines that passed and the table of the clauses
 abbrev pub state_of : ℕ → List ℕ → Formula → CheckState

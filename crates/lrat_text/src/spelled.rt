@@ -18,6 +18,8 @@ use std::marker::Model;
 pub(crate) struct Spelled {
     vars: u32,
     bench: Bench,
+    // False where memory was refused while a clause was added; the clauses are lost then.
+    is_whole: bool,
     clause: Vec<AtomLit>,
 }
 
@@ -27,6 +29,7 @@ impl Drop for Spelled {
         let Spelled {
             vars: _,
             bench: _,
+            is_whole: _,
             clause: _,
         } = self;
     }
@@ -41,7 +44,7 @@ impl Model for Spelled {
 
     ghost view = { λ s. formula s.vars (clauses_of s.bench) };
 
-    ghost invariant = { λ s. IsSpelledTable s.vars s.bench };
+    ghost invariant = { λ s. IsSpelledTable s.vars s.is_whole s.bench };
 }
 
 // The literal over atoms that stands for a literal.
@@ -105,6 +108,7 @@ impl Spelled {
         Ok(Spelled {
             vars,
             bench,
+            is_whole: true,
             clause,
         })
     }
@@ -122,7 +126,12 @@ impl Spelled {
         ensures { IfOk result (Takes self.old clause.now hints.now self.new) }
     {
         spell(&mut self.clause, clause)?;
+        if !self.is_whole {
+            return Err(Memory);
+        }
+        self.is_whole = false;
         let passes = self.bench.derive(self.clause.as_slice(), hints)?;
+        self.is_whole = true;
         Ok(passes)
     }
 }

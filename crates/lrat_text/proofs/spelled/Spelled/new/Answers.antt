@@ -7,7 +7,7 @@ use Rattle.lrat_text.proofs.spelled.Spelled.new.Goals as goal
 pub invariant_of-result : goal.invariant_of-result
 invariant_of-result c = record {
   few = c.requires;
-  spelled = subst (λ x. AreSpelled x) (sym c.in_ok-bench.ensures) (all_spelled c.args.rows.now);
+  spelled = λ e. subst (λ x. AreSpelled x) (sym c.in_ok-bench.ensures) (all_spelled c.args.rows.now);
 }
 
 pub returns : goal.returns
