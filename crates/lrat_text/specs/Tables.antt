@@ -4,16 +4,9 @@ use Rattle.plain_lits.specs.declared.lit.Lit.{Lit}
 use Rattle.plain_lits.specs.Checking.{HaveRoomFor}
 use Rattle.meaning_atoms.specs.declared.atom.AtomLit.{AtomLit}
 use Rattle.lrat_text.specs.declared.cnf.TheConstants.{MAX_VARIABLE}
-use Rattle.lrat_text.specs.declared.table.Table.{Table}
-use Rattle.lrat_text.specs.declared.table.Table.TheVariants.{Plain, Spelled}
 use Rattle.lrat_text.specs.CnfText.{Formula, formula}
 use Rattle.lrat_text.specs.Checking.{CheckState, check_state, IsTaken, IsRejected}
 use Rattle.lrat_text.specs.Spelling.{AreSpelled}
-
--- the variables and the clauses of a table, however it holds them
-abbrev pub formula_of : Table → Formula
-formula_of (Plain f) = f
-formula_of (Spelled f) = f
 
 -- no variable of a clause is over this number
 abbrev pub IsBelow : ℕ → List Lit → Type 0

@@ -3,7 +3,8 @@
 ghost use Rattle.std.specs.Prelude.{◌≡◌, ℕ, ◌<◌, [], ◌++◌, length, map, IfOk};
 ghost use Rattle.std.specs.List.{range_with_len};
 ghost use Rattle.lrat_text.specs.Checking.{AreIds, TakenAs, IsLast, step_line, check_state, number_of};
-ghost use Rattle.lrat_text.specs.Tables.{IsBelow, Takes, formula_of};
+ghost use Rattle.lrat_text.specs.Tables.{IsBelow, Takes};
+ghost use Rattle.lrat_text.specs.TableFormula.{formula_of};
 
 use crate::cnf::Cnf;
 use crate::ids::name_hints;
@@ -49,7 +50,8 @@ impl Drop for Steps {
 
 impl Model for Steps {
     ghost use Rattle.lrat_text.specs.Checking.{AreIds, CheckState};
-    ghost use Rattle.lrat_text.specs.Tables.{formula_of, state_of};
+    ghost use Rattle.lrat_text.specs.TableFormula.{formula_of};
+    ghost use Rattle.lrat_text.specs.Tables.{state_of};
 
     ghost Value = { CheckState };
 

@@ -3,7 +3,8 @@
 ghost use Rattle.std.specs.Prelude.{◌≡◌, ◌≤◌, IfOk};
 ghost use Rattle.lrat_text.specs.declared.cnf.TheConstants.{MAX_VARIABLE};
 ghost use Rattle.lrat_text.specs.CnfText.{AreWithin, formula};
-ghost use Rattle.lrat_text.specs.Tables.{IsBelow, Takes, formula_of};
+ghost use Rattle.lrat_text.specs.Tables.{IsBelow, Takes};
+ghost use Rattle.lrat_text.specs.TableFormula.{formula_of};
 
 use crate::plain::Plain;
 use crate::spelled::Spelled;

@@ -1,6 +1,7 @@
 use Rattle.std.proofs.Common.{rules, sym, subst}
 use Rattle.lrat_text.specs.Checking.{CheckState}
-use Rattle.lrat_text.specs.Tables.{IsBelow, Takes, formula_of}
+use Rattle.lrat_text.specs.TableFormula.{formula_of}
+use Rattle.lrat_text.specs.Tables.{IsBelow, Takes}
 use Rattle.lrat_text.proofs.CheckStates.{added_ids, named_hints, state_failed, state_added}
 use Rattle.lrat_text.proofs.steps.Steps.take.Goals as goal
 
