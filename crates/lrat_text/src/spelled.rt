@@ -49,7 +49,7 @@ impl Model for Spelled {
 
 // The literal over atoms that stands for a literal.
 fn spell_one(lit: Lit) -> AtomLit
-    requires { lit.var ≤ MAX_VARIABLE }
+    requires { lit.var ≤ 2147483647 }
     ensures { result ≡ spelled lit }
 {
     AtomLit {
@@ -60,7 +60,7 @@ fn spell_one(lit: Lit) -> AtomLit
 
 // Puts the literals over atoms that stand for a clause into a list, in place of what it has.
 fn spell(into: &mut Vec<AtomLit>, clause: &[Lit]) -> Result<(), Memory>
-    requires { IsBelow MAX_VARIABLE clause.now }
+    requires { IsBelow 2147483647 clause.now }
     ensures { OnOk result (into.new.items ≡ spelled_clause clause.now) }
 {
     into.clear();
