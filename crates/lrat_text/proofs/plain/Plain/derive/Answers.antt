@@ -15,8 +15,8 @@ pack_into-requires c =
     plain_packable _ _ _ _ _ c.self.invariant
     (subst (λ (f : Formula). IsBelow f.vars c.args.clause.now) (sym c.self.view_is) c.requires)
 
-pub invariant_of-self-in-Err : goal.invariant_of-self-in-Err
-invariant_of-self-in-Err c = plain_kept _ _ _ _ _ _ c.self.invariant c.check.ensures.lits c.check.ensures.vars
+pub invariant_of-self : goal.invariant_of-self
+invariant_of-self c = plain_kept _ _ _ _ _ _ c.self.invariant c.check.ensures.lits c.check.ensures.vars
 
 pub returns-in-Err : goal.returns-in-Err
 returns-in-Err c = rw (← c.self.view_is) ((c.in-Err.field-0, c.in-Err.ensures.outcome), refl)
@@ -33,12 +33,12 @@ pub invariant_of-self-in-Ok : goal.invariant_of-self-in-Ok
 invariant_of-self-in-Ok c =
     plain_more _ _ _ _ _ _ (plain_kept _ _ _ _ _ _ c.self.invariant c.check.ensures.lits c.check.ensures.vars)
     (subst (λ (f : Formula). IsBelow f.vars c.args.clause.now) (sym c.self.view_is) c.requires)
-    (packed_row _ _ _ _ _ c.in_ok-push-in-Ok.ensures.ok c.as_slice-in-Ok.ensures.value c.in_ok-pack_into-in-Ok.ensures)
+    (packed_row _ _ _ _ _ c.in_ok-push-in-Ok.ensures.ok c.as_slice.ensures.value c.in_ok-pack_into-in-Ok.ensures)
 
 pub returns-in_ok-push-in-Ok : goal.returns-in_ok-push-in-Ok
 returns-in_ok-push-in-Ok c =
     rw (← c.self.view_is) (
       (c.in-Ok.field-0, c.in-Ok.ensures.outcome),
       ap (λ cs. formula c.self.inside.vars cs) (packed_row _ _ _ _ _ c.in_ok-push-in-Ok.ensures.ok
-          c.as_slice-in-Ok.ensures.value c.in_ok-pack_into-in-Ok.ensures),
+          c.as_slice.ensures.value c.in_ok-pack_into-in-Ok.ensures),
     )

@@ -15,7 +15,15 @@ pub invariant_of-self-in_err-passes : goal.invariant_of-self-in_err-passes
 invariant_of-self-in_err-passes c = cut_off _ _ c.self.invariant.few
 
 pub invariant_of-self-2 : goal.invariant_of-self-2
-invariant_of-self-2 c = ?
+invariant_of-self-2 c =
+    still_spelled c.self.inside.vars c.self.inside.bench c.derive.new.self c.as_slice.result.now c.args.clause.now _
+    c.in_ok-passes.passes c.self.invariant.few (c.self.invariant.spelled c.if-not-self.false)
+    (c.as_slice.ensures.value ∙ c.in_ok-spell.ensures) c.in_ok-passes.ensures
 
 pub returns : goal.returns
-returns c = ?
+returns c =
+    rw (← c.self.view_is) (
+    spelled_takes c.self.inside.vars c.self.inside.bench c.derive.new.self c.as_slice.result.now c.args.clause.now
+    c.args.hints.now c.in_ok-passes.passes (c.self.invariant.spelled c.if-not-self.false)
+    (c.as_slice.ensures.value ∙ c.in_ok-spell.ensures) c.in_ok-passes.ensures
+    )
