@@ -1,7 +1,7 @@
 use Rattle.std.proofs.Common.{ap, subst, ◌∙◌}
 use Rattle.num_text.specs.Cuts.{field_texts}
 use Rattle.num_text.specs.Views.{line_text}
-use Rattle.lrat_text.specs.Checking.{CheckState, TakenAs, step_line, steps_in}
+use Rattle.lrat_text.specs.Checking.{CheckState, TakenAs, step_line}
 use Rattle.lrat_text.specs.Lines.{lrat_kept}
 use Rattle.lrat_text.specs.LratText.{IsStepLine}
 use Rattle.lrat_text.proofs.Courses.{goes_more, judged_failed, judged_empty, judged_end, literals_within, last_more, steps_more}

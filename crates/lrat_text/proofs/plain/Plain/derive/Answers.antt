@@ -1,5 +1,4 @@
-use Rattle.plain_lits.specs.declared.lit.Lit.{Lit}
-use Rattle.std.proofs.Common.{List, ap, refl, sym, subst}
+use Rattle.std.proofs.Common.{ap, refl, sym, subst}
 use Rattle.lrat_text.specs.CnfText.{Formula, formula}
 use Rattle.lrat_text.specs.Tables.{IsBelow}
 use Rattle.lrat_text.proofs.TableLemmas.{plain_kept, plain_room, plain_packable, plain_more, packed_row}
