@@ -1,15 +1,16 @@
 -- The state of the check, as lines are taken.
-use Rattle.std.proofs.Common.{◌≡◌, ℕ, ◌+◌, ◌-◌, ◌<◌, ◌≤◌, ◌^◌, List, [], ◌∷◌, ◌++◌, length, length-append, get_or, inl, inr, ap, sym, subst, ◌∙◌, arith, ⊎_elim}
+use Rattle.std.proofs.Common.{◌≡◌, ℕ, ◌+◌, ◌<◌, ◌≤◌, ◌^◌, Bool, true, false, List, [], ◌∷◌, ◌++◌, length, length-append, get_or, map, inl, inr, ap, sym, subst, ◌∙◌, arith, ⊎_elim}
 use Rattle.std.specs.Prelude.{Contains}
+use Rattle.std.specs.List.{range_with_len}
 use Rattle.std.specs.List.Sorted.{IsStrictlyIncreasing}
 use Rattle.std.proofs.lemmas.Bool.{cases_lt}
 use Rattle.std.proofs.lemmas.List.{get_or_append_left, get_or-append-add}
 use Rattle.std.proofs.lemmas.List.Elements.{Contains-get_or, Contains-push_cases}
 use Rattle.plain_lits.specs.declared.lit.Lit.{Lit}
-use Rattle.meaning_atoms.specs.declared.atom.AtomLit.{AtomLit}
 use Rattle.lists.proofs.Membership.{Contains-nil}
-use Rattle.lrat_text.specs.CnfText.{Formula, IsFormula}
-use Rattle.lrat_text.specs.Checking.{AreIds, CheckState, check_state, IsLast, IsCheckState}
+use Rattle.lrat_text.specs.CnfText.{Formula}
+use Rattle.lrat_text.specs.Checking.{AreIds, CheckState, steps_in, step_line, number_of, Fails, IsLast, IsAdded}
+use Rattle.lrat_text.specs.Tables.{Takes, state_of}
 
 -- a rising list with one number more that is above all of it
 push_rises : (ids : List ℕ) (id : ℕ) → IsStrictlyIncreasing ids → ((i : ℕ) → Contains ids i → i < id)
@@ -39,34 +40,49 @@ push_ids count ids id last h low all above fits = record {
   fit = λ i c. ⊎_elim (λ old. h.fit i old) (λ (e : id ≡ i). omega (arith, e, fits)) (Contains-push_cases ids id i c);
 }
 
--- the state with one more line
-pub added_state : (vars count : ℕ) (ids new : List ℕ) (clauses : List (List AtomLit)) (view : CheckState) (id : ℕ)
-    → IsCheckState vars count ids → check_state vars count ids clauses ≡ view
-    → (last : ℕ) × IsLast last view × (last < id) → id < 2 ^ 32 → new ≡ ids ++ id ∷ [] → IsCheckState vars count new
-added_state vars count ids new clauses view id h viewed last fits more =
+-- before the first line there is no id
+pub no_ids : (count : ℕ) (ids : List ℕ) → ids ≡ [] → AreIds count ids
+no_ids count ids none = rw none (record {
+  rise = λ k lt. absurd (omega arith);
+  above = λ id c. absurd (Contains-nil id c);
+  fit = λ id c. absurd (Contains-nil id c);
+})
+
+-- ids with that of one more line
+pub added_ids : (count : ℕ) (ids new : List ℕ) (f : Formula) (view : CheckState) (id : ℕ) → AreIds count ids
+    → state_of count ids f ≡ view → (last : ℕ) × IsLast last view × (last < id) → id < 2 ^ 32 → new ≡ ids ++ id ∷ []
+    → AreIds count new
+added_ids count ids new f view id h viewed last fits more =
     let counted : count ≤ last.0 = subst (λ v. v.count ≤ last.0) (sym viewed) last.1.count in
     let all : (i : ℕ) → Contains ids i → i ≤ last.0
     = subst (λ (v : CheckState). (i : ℕ) → Contains v.ids i → i ≤ last.0) (sym viewed) last.1.ids in
-    rw more (record { in_order = push_ids count ids id last.0 h.in_order counted all last.2 fits; few = h.few })
+    rw more (push_ids count ids id last.0 h counted all last.2 fits)
 
--- the state before the first line
-pub new_state : (f : Formula) (vars count : ℕ) (ids : List ℕ) → IsFormula f → vars ≡ f.vars → ids ≡ []
-    → IsCheckState vars count ids
-new_state f vars count ids h same none = rw none (record {
-  in_order = record {
-    rise = λ k lt. absurd (omega arith);
-    above = λ id c. absurd (Contains-nil id c);
-    fit = λ id c. absurd (Contains-nil id c);
-  };
-  few = let le = h.few in omega (arith, le, same);
-})
+-- ---- what becomes of the state
 
--- a line's literal is one that can be spelled
-pub literals_low : (vars count : ℕ) (ids : List ℕ) (clauses : List (List AtomLit)) (view : CheckState) (given : List Lit)
-    (clause : List Lit) → IsCheckState vars count ids → check_state vars count ids clauses ≡ view → given ≡ clause
-    → ((l : Lit) → Contains clause l → l.var ≤ view.vars) → (l : Lit) → Contains given l → l.var < 2147483648
-literals_low vars count ids clauses view given clause h viewed same within l c =
-    let low = within l (subst (λ ls. Contains ls l) same c) in
-    let high = h.few in
-    let e : vars ≡ view.vars = ap (λ (v : CheckState). v.vars) viewed in
-    omega (arith, low, high, e)
+-- the hints as numbers of steps
+abbrev pub named_hints : ℕ → List ℕ → List ℕ → List ℕ
+named_hints count ids hints = map (number_of (range_with_len 1 count ++ ids)) hints
+
+pub state_failed : (count : ℕ) (ids : List ℕ) (f g : Formula) (view : CheckState) (id : ℕ) (clause : List Lit)
+    (hints : List ℕ) (passes : Bool) → state_of count ids f ≡ view
+    → Takes f clause (named_hints count ids hints) g passes → passes ≡ false
+    → Fails (steps_in view) (step_line id clause hints) × (state_of count ids g ≡ view)
+state_failed count ids f g view id clause hints passes viewed h e =
+    let t : Takes f clause (named_hints count ids hints) g false
+    = subst (λ b. Takes f clause (named_hints count ids hints) g b) e h in (
+      subst (λ v. Fails (steps_in v) (step_line id clause hints)) viewed t.0,
+      ap (λ x. state_of count ids x) t.1 ∙ viewed,
+    )
+
+pub state_added : (count : ℕ) (ids more : List ℕ) (f g : Formula) (view : CheckState) (id : ℕ) (clause : List Lit)
+    (hints : List ℕ) (passes : Bool) → state_of count ids f ≡ view
+    → Takes f clause (named_hints count ids hints) g passes → passes ≡ true → more ≡ ids ++ id ∷ []
+    → IsAdded view (state_of count more g) (step_line id clause hints)
+state_added count ids more f g view id clause hints passes viewed h e pushed =
+    let t : Takes f clause (named_hints count ids hints) g true
+    = subst (λ b. Takes f clause (named_hints count ids hints) g b) e h in
+    subst (λ v. IsAdded v (state_of count more g) (step_line id clause hints)) viewed (record {
+      passes = t.0;
+      after_is = ap (λ is. state_of count is g) pushed ∙ ap (λ x. state_of count (ids ++ id ∷ []) x) t.1;
+    })

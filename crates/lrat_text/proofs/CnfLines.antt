@@ -1,10 +1,9 @@
 -- The lines of a CNF, as they are read.
-use Rattle.std.proofs.Common.{◌≡◌, ◌≢◌, ◌⊎◌, ℕ, ◌+◌, ◌<◌, ◌≤◌, Bool, true, false, List, [], ◌∷◌, ◌++◌, fold, map, append_assoc, inl, inr, ap, sym, subst, refl, ◌∙◌, arith, ⊎_elim}
+use Rattle.std.proofs.Common.{◌≡◌, ℕ, ◌<◌, ◌≤◌, Bool, true, false, List, [], ◌∷◌, ◌++◌, fold, append_assoc, inl, ap, sym, subst, refl, ◌∙◌, arith}
 use Rattle.std.specs.Prelude.{Result}
 use Rattle.num_text.specs.Cuts.{LineText, field_texts}
 use Rattle.std.specs.List.{AllZip}
 use Rattle.std.proofs.lemmas.List.{append-nil}
-use Rattle.std.proofs.lemmas.List.Elements.{Contains-push_cases}
 use Rattle.lists.proofs.Zips.{zip_push}
 use Rattle.plain_lits.specs.declared.lit.Lit.{Lit}
 use Rattle.lrat_text.specs.declared.fault.CnfCause.{CnfCause}

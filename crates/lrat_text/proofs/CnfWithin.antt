@@ -1,5 +1,5 @@
 -- The variables of the clauses that are read.
-use Rattle.std.proofs.Common.{◌≡◌, ◌≢◌, ◌⊎◌, ℕ, ◌<◌, ◌≤◌, ◌==◌, List, [], ◌∷◌, ◌++◌, length, fold, inl, inr, ap, sym, subst, ◌∙◌, arith, ⊎_elim}
+use Rattle.std.proofs.Common.{◌≡◌, ℕ, ◌≤◌, ◌==◌, List, [], ◌∷◌, ◌++◌, length, fold, inl, inr, ap, sym, subst, ◌∙◌, arith, ⊎_elim}
 use Rattle.std.specs.Prelude.{Contains, Result, Ok, Err}
 use Rattle.std.specs.List.{AllZip}
 use Rattle.std.proofs.lemmas.Bool.{cases_eq, cond-true, cond-false, eq-eqb, ne_eqb}
@@ -8,8 +8,7 @@ use Rattle.lists.proofs.Membership.{Contains-nil}
 use Rattle.num_text.specs.Cuts.{LineText, field_texts}
 use Rattle.plain_lits.specs.declared.lit.Lit.{Lit}
 use Rattle.lrat_text.specs.declared.fault.CnfCause.{CnfCause}
-use Rattle.lrat_text.specs.declared.fault.CnfCause.TheVariants.{ClauseCount}
-use Rattle.lrat_text.specs.CnfText.{Cut, adds, cut, no_cut, formula, AreWithin, IsFormula, IsHeader, IsWhole, IsWithin, Leads, ReadsTo, SpellsBounded}
+use Rattle.lrat_text.specs.CnfText.{Cut, adds, cut, no_cut, formula, AreWithin, IsFormula, IsHeader, IsWithin, ReadsTo, SpellsBounded}
 
 -- the literals of a cut are within
 pub record CutWithin (vars : ℕ) (c : Cut) : Type 0 where

@@ -1,5 +1,5 @@
 -- The course of a check, line by line.
-use Rattle.std.proofs.Common.{◌≡◌, ◌≢◌, ◌⊎◌, ℕ, ◌<◌, ◌≤◌, List, [], ◌∷◌, ◌++◌, length, append_assoc, inl, inr, ap, sym, subst, refl, ◌∙◌, arith, ⊎_elim}
+use Rattle.std.proofs.Common.{◌≡◌, ◌≢◌, ℕ, ◌<◌, ◌≤◌, List, [], ◌∷◌, ◌++◌, length, append_assoc, inl, inr, ap, sym, subst, refl, ◌∙◌, arith, ⊎_elim}
 use Rattle.std.specs.Prelude.{Contains, Result, Ok, Err}
 use Rattle.std.specs.List.{AllZip, range_with_len}
 use Rattle.std.proofs.lemmas.List.Elements.{Contains-push_cases}
@@ -19,10 +19,7 @@ use Rattle.lrat_text.specs.LratText.{AreSteps, IsFirstFault, IsStepLine, LineSta
 use Rattle.lrat_text.specs.CnfText.{Formula}
 use Rattle.lrat_text.specs.Lines.{lrat_kept}
 use Rattle.lrat_text.specs.Unsatisfiable.{HasNoModel}
-use Rattle.meaning_atoms.specs.declared.atom.AtomLit.{AtomLit}
-use Rattle.lrat_text.specs.Spelling.{spelled_clause, spelled_clauses, clauses_of}
 use Rattle.lrat_text.proofs.Soundness.{verified_has_no_model}
-use Rattle.lrat_text.proofs.Spellings.{clauses_more, clauses_read}
 
 pub goes_start : (vars last : ℕ) (steps : StepList) (lines : List LineText) → GoesOn vars last steps lines last steps lines
 goes_start vars last steps lines = record { good = λ more verdict a b. (more, a, b); bad = λ line cause f. f }
@@ -94,7 +91,7 @@ literals_within vars (f ∷ fs) (m ∷ ms) all l c =
     (Contains-cons_cases m ms l c)
 
 -- the last id, with one line more
-pub last_more : (s after : CheckState) (last id : ℕ) (clauses : List (List AtomLit)) → IsLast last s → last < id
+pub last_more : (s after : CheckState) (last id : ℕ) (clauses : List (List Lit)) → IsLast last s → last < id
     → after ≡ check_state s.vars s.count (s.ids ++ id ∷ []) clauses → IsLast id after
 last_more s after last id clauses h above same =
     let low = h.count in
@@ -106,14 +103,12 @@ last_more s after last id clauses h above same =
 
 -- the steps, with one line more
 pub steps_more : (s after : CheckState) (id : ℕ) (clause : List Lit) (hints : List ℕ)
-    → after ≡ check_state s.vars s.count (s.ids ++ id ∷ []) (s.clauses ++ spelled_clause clause ∷ [])
+    → after ≡ check_state s.vars s.count (s.ids ++ id ∷ []) (s.clauses ++ clause ∷ [])
     → steps_in after ≡ with_line (steps_in s) (step_line id clause hints)
 steps_more s after id clause hints same =
     ap steps_in same
-    ∙ (ap (λ ids. record { ids = ids; clauses = clauses_of (s.clauses ++ spelled_clause clause ∷ []) })
+    ∙ ap (λ ids. record { ids = ids; clauses = s.clauses ++ clause ∷ [] })
     (sym (append_assoc (range_with_len 1 s.count) s.ids (id ∷ [])))
-    ∙ ap (λ cs. record { ids = (range_with_len 1 s.count ++ s.ids) ++ id ∷ []; clauses = cs })
-    (clauses_more s.clauses clause))
 
 -- ---- lines that are read without a check
 
@@ -153,7 +148,7 @@ read_faulty vars last lines last1 old left line Memory r cut told = tt
 
 -- the lines of a text come to what is told of them
 pub checked_ok : (f : Formula) (bytes : List ℕ) (s : CheckState) (vars last new_last : ℕ) (left : List LineText)
-    (verdict : Verdict) → s ≡ check_state f.vars (length f.clauses) [] (spelled_clauses f.clauses) → vars ≡ s.vars
+    (verdict : Verdict) → s ≡ check_state f.vars (length f.clauses) [] f.clauses → vars ≡ s.vars
     → last ≡ s.count
     → IsJudged s.vars last (steps_in s) (lrat_kept (lines_of bytes)) new_last left verdict
     → AreSomeSteps vars new_last left → IsChecked f bytes (Ok verdict)
@@ -165,9 +160,7 @@ checked_ok f bytes s vars last new_last left verdict begun same_vars same_last j
     = subst (λ v. AreSteps v (length f.clauses) lines all.0) (ap (λ (t : CheckState). t.vars) begun)
     (subst (λ n. AreSteps s.vars n lines all.0) (same_last ∙ ap (λ (t : CheckState). t.count) begun) all.1) in
     let first : steps_in s ≡ steps_of f.clauses = ap steps_in begun
-    ∙ (ap (λ ids. record { ids = ids; clauses = clauses_of (spelled_clauses f.clauses) })
-    (append-nil (range_with_len 1 (length f.clauses)))
-    ∙ ap (λ cs. record { ids = range_with_len 1 (length f.clauses); clauses = cs }) (clauses_read f.clauses)) in
+    ∙ ap (λ ids. record { ids = ids; clauses = f.clauses }) (append-nil (range_with_len 1 (length f.clauses))) in
     (all.0, steps, subst (λ t. ComesTo t all.0 verdict) first all.2)
 
 abbrev pub IsOkVerified : Result Verdict LratFault → Type 0

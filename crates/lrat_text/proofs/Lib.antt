@@ -10,3 +10,4 @@ pub mod NamedSteps
 pub mod OneReading
 pub mod Soundness
 pub mod Spellings
+pub mod TableLemmas

@@ -1,6 +1,6 @@
 -- The cause that is told of a line, and what a line without one says.
-use Rattle.std.proofs.Common.{◌≡◌, ◌⊎◌, ℕ, ◌+◌, ◌<◌, ◌≤◌, Bool, true, false, List, [], ◌∷◌, ◌++◌, length, map, drop, get_or, inl, inr, ap, sym, subst, refl, ◌∙◌, arith, ⊎_elim}
-use Rattle.std.specs.Prelude.{Contains, Option, Some, None, IfSome, IfNone, is_some, ◌↔◌}
+use Rattle.std.proofs.Common.{◌≡◌, ℕ, ◌<◌, ◌≤◌, Bool, true, false, List, [], ◌∷◌, ◌++◌, length, map, drop, get_or, inl, inr, ap, sym, subst, refl, ◌∙◌, arith, ⊎_elim}
+use Rattle.std.specs.Prelude.{Option, Some, None, IfSome, is_some, ◌↔◌}
 use Rattle.std.specs.List.{AllZip}
 use Rattle.num_text.specs.Cuts.{FieldText}
 use Rattle.num_text.specs.Number.{IsNumber, digits_value}

@@ -1,6 +1,6 @@
 -- The parts of a line, as they are read.
-use Rattle.std.proofs.Common.{◌≡◌, ◌≢◌, ◌⊎◌, ℕ, zero, suc, ◌+◌, ◌-◌, ◌<◌, ◌≤◌, Bool, true, false, List, [], ◌∷◌, ◌++◌, length, length-append, get_or, map, append_assoc, inl, inr, ap, sym, subst, refl, ◌∙◌, arith, ⊎_elim}
-use Rattle.std.specs.Prelude.{Contains, Option, Some, None, ◌↔◌, IfSome, IfNone}
+use Rattle.std.proofs.Common.{◌≡◌, ◌⊎◌, ℕ, zero, suc, ◌+◌, ◌-◌, ◌<◌, ◌≤◌, Bool, true, false, List, [], ◌∷◌, ◌++◌, length, length-append, get_or, map, append_assoc, inl, inr, ap, sym, subst, refl, ◌∙◌, arith, ⊎_elim}
+use Rattle.std.specs.Prelude.{Contains, Option, Some, None}
 use Rattle.std.specs.List.{AllZip}
 use Rattle.std.proofs.lemmas.Bool.{cases_Bool, cond-true, cond-false, false≢true}
 use Rattle.std.proofs.lemmas.List.{append-nil, get_or-append-add}
@@ -8,14 +8,14 @@ use Rattle.lists.proofs.Zips.{zip_push}
 use Rattle.lists.proofs.Membership.{Contains-tail}
 use Rattle.num_text.specs.Cuts.{FieldText}
 use Rattle.num_text.specs.Number.{IsNumber}
-use Rattle.num_text.specs.Numerals.{IsReadNumber, TakesField}
+use Rattle.num_text.specs.Numerals.{TakesField}
 use Rattle.plain_lits.specs.declared.lit.Lit.{Lit}
 use Rattle.std.specs.Prelude.{is_some}
 use Rattle.std.proofs.lemmas.List.Elements.{Contains-push_cases}
 use Rattle.lrat_text.specs.declared.fault.LratCause.{LratCause}
 use Rattle.lrat_text.specs.declared.fault.LratCause.TheVariants.{BadLine, BadNumber, OutOfRange, IdOrder}
 use Rattle.lrat_text.specs.LratText.{ReadsPart, HintsSay, LiteralsSay, HasOutsider}
-use Rattle.lrat_text.specs.Numbers.{has_zero, zeros, before_zero, behind_zero, is_filled, is_zero, IsSigned, SpellsLit, HasNoSigned, HasNoNumber}
+use Rattle.lrat_text.specs.Numbers.{has_zero, zeros, before_zero, behind_zero, is_filled, is_zero, IsSigned, SpellsLit, HasNoSigned}
 
 -- ---- one field
 

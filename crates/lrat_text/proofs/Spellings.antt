@@ -1,12 +1,11 @@
 -- A check over atoms that stand for variables is one over the variables.
-use Rattle.std.proofs.Common.{◌≡◌, ℕ, ◌+◌, ◌-◌, ◌<◌, ◌≤◌, List, [], ◌∷◌, ◌++◌, length, get_or, map, Bool, true, false, Result, Ok, Err, arith, refl, ap, sym, subst, ◌∙◌, ⊎_elim}
+use Rattle.std.proofs.Common.{◌≡◌, ℕ, ◌-◌, ◌≤◌, List, [], ◌∷◌, ◌++◌, length, map, Bool, true, false, Result, Ok, Err, arith, refl, ap, sym, subst, ◌∙◌, ⊎_elim}
 use Rattle.std.specs.Prelude.{Contains}
-use Rattle.std.specs.List.{range_with_len}
 use Rattle.std.proofs.lemmas.List.{length-map, map-append, get_or-map}
 use Rattle.std.proofs.lemmas.List.Elements.{Contains-push_cases, Contains-get_or}
 use Rattle.plain_lits.specs.declared.lit.Lit.{Lit}
 use Rattle.plain_lits.specs.Literals.{negation}
-use Rattle.plain_lits.specs.HintCheck.{Checks, IsNamed, clause_at}
+use Rattle.plain_lits.specs.HintCheck.{Checks, clause_at}
 use Rattle.plain_lits.specs.CheckLaws.{Renames, IsImage, IsMovedHint, IsMovedCheck}
 use Rattle.plain_lits.proofs.HintCheckLemmas.{Contains-mapped, Contains-from_mapped}
 use Rattle.plain_lits.proofs.OneOutcome.{one_outcome}
@@ -14,9 +13,12 @@ use Rattle.plain_lits.proofs.Renaming.{checks_moved}
 use Rattle.meaning_atoms.specs.declared.atom.AtomLit.{AtomLit}
 use Rattle.meaning_atoms.specs.Literals.{negated}
 use Rattle.meaning_atoms.proofs.SameAtoms.{same_literal}
-use Rattle.clause_bench.specs.Benches.{Takes}
-use Rattle.lrat_text.specs.Checking.{StepList, step_list, step_line, IsTaken, IsRejected, Passes, Fails, CheckState, check_state, steps_in, number_of, LineTakes, IsAdded}
+use Rattle.clause_bench.specs.Benches.{Takes as Bench_takes}
+use Rattle.lrat_text.specs.declared.cnf.TheConstants.{MAX_VARIABLE}
+use Rattle.lrat_text.specs.CnfText.{formula}
+use Rattle.lrat_text.specs.Checking.{IsRejected}
 use Rattle.lrat_text.specs.Spelling.{spelled, spelled_clause, spelled_clauses, lit_of, clause_of, clauses_of, IsSpelled, AreSpelled}
+use Rattle.lrat_text.specs.Tables.{Takes, IsSpelledTable}
 
 -- ---- what is spelled is read back
 
@@ -109,60 +111,41 @@ failed_by : (clauses : List (List AtomLit)) (clause : List Lit) (hints : List �
 failed_by clauses clause hints (Ok used) all h none = absurd (none (used, h))
 failed_by clauses clause hints (Err place) all h none = (place, checks_read clauses clause hints (Err place) all h)
 
--- ---- a line
+-- ---- a clause
 
--- what the table of clauses says of a clause over atoms is what the check says of a line
-pub line_takes : (steps : StepList) (before after : List (List AtomLit)) (given : List AtomLit) (named : List ℕ)
-    (clause : List Lit) (hints : List ℕ) (passes : Bool) → steps.clauses ≡ clauses_of before → AreSpelled before
-    → given ≡ spelled_clause clause → named ≡ map (number_of steps.ids) hints
-    → Takes ((used : ℕ) × Checks negated before given named (Ok used)) before given after passes
-    → LineTakes steps before after clause hints passes
-line_takes steps before after given named clause hints true cut all same is h =
-    let there : Checks negated before (spelled_clause clause) named (Ok h.0.0)
-    = subst (λ x. Checks negated before x named (Ok h.0.0)) same h.0.1 in (
-      subst (λ x. IsTaken steps.clauses clause x) is (subst (λ x. IsTaken x clause named) (sym cut)
-          (h.0.0, checks_read before clause named (Ok h.0.0) all there)),
-      h.1 ∙ ap (λ x. before ++ x ∷ []) same,
+-- what the table of clauses over atoms says of a clause is what the check says of it over variables
+pub spelled_takes : (vars : ℕ) (before after : List (List AtomLit)) (given : List AtomLit) (clause : List Lit)
+    (hints : List ℕ) (passes : Bool) → AreSpelled before → given ≡ spelled_clause clause
+    → Bench_takes ((used : ℕ) × Checks negated before given hints (Ok used)) before given after passes
+    → Takes (formula vars (clauses_of before)) clause hints (formula vars (clauses_of after)) passes
+spelled_takes vars before after given clause hints true all same h =
+    let there : Checks negated before (spelled_clause clause) hints (Ok h.0.0)
+    = subst (λ x. Checks negated before x hints (Ok h.0.0)) same h.0.1 in
+    let more : after ≡ before ++ spelled_clause clause ∷ [] = h.1 ∙ ap (λ x. before ++ x ∷ []) same in (
+      (h.0.0, checks_read before clause hints (Ok h.0.0) all there),
+      ap (λ cs. formula vars (clauses_of cs)) more ∙ ap (λ cs. formula vars cs) (clauses_more before clause),
     )
-line_takes steps before after given named clause hints false cut all same is h =
-    let some = (one_outcome negated same_literal before (spelled_clause clause) named).some in (
-      subst (λ x. IsRejected steps.clauses clause x) is (subst (λ x. IsRejected x clause named) (sym cut)
-          (failed_by before clause named some.0 all some.1
-          (λ g. h.0 (g.0, subst (λ x. Checks negated before x named (Ok g.0)) (sym same) g.1)))),
-      h.1,
+spelled_takes vars before after given clause hints false all same h =
+    let some = (one_outcome negated same_literal before (spelled_clause clause) hints).some in (
+      failed_by before clause hints some.0 all some.1
+          (λ g. h.0 (g.0, subst (λ x. Checks negated before x hints (Ok g.0)) (sym same) g.1)),
+      ap (λ cs. formula vars (clauses_of cs)) h.1,
     )
 
 -- the clauses stay spelled
-pub still_spelled : (steps : StepList) (before after : List (List AtomLit)) (clause : List Lit) (hints : List ℕ)
-    (passes : Bool) → AreSpelled before → LineTakes steps before after clause hints passes → AreSpelled after
-still_spelled steps before after clause hints true all h =
-    subst (λ x. AreSpelled x) (sym h.1) (more_spelled before clause all)
-still_spelled steps before after clause hints false all h = subst (λ x. AreSpelled x) (sym h.1) all
+pub still_spelled : (vars : ℕ) (before after : List (List AtomLit)) (given : List AtomLit) (clause : List Lit)
+    (P : Type 0) (passes : Bool) → vars ≤ MAX_VARIABLE → AreSpelled before → given ≡ spelled_clause clause
+    → Bench_takes P before given after passes → IsSpelledTable vars true after
+still_spelled vars before after given clause P true few all same h = record {
+  few = few;
+  spelled = λ e. subst (λ x. AreSpelled x) (sym (h.1 ∙ ap (λ x. before ++ x ∷ []) same))
+      (more_spelled before clause all);
+}
+still_spelled vars before after given clause P false few all same h = record {
+  few = few;
+  spelled = λ e. subst (λ x. AreSpelled x) (sym h.1) all;
+}
 
--- what becomes of the state
-abbrev pub steps_so : ℕ → List ℕ → List (List AtomLit) → StepList
-steps_so count ids clauses = step_list (range_with_len 1 count ++ ids) (clauses_of clauses)
-
-pub state_failed : (vars count : ℕ) (ids : List ℕ) (before after : List (List AtomLit)) (view : CheckState) (id : ℕ)
-    (clause : List Lit) (hints : List ℕ) (passes : Bool) → check_state vars count ids before ≡ view
-    → LineTakes (steps_so count ids before) before after clause hints passes → passes ≡ false
-    → Fails (steps_in view) (step_line id clause hints) × (check_state vars count ids after ≡ view)
-state_failed vars count ids before after view id clause hints passes viewed h e =
-    let t : LineTakes (steps_so count ids before) before after clause hints false
-    = subst (λ b. LineTakes (steps_so count ids before) before after clause hints b) e h in (
-      subst (λ v. Fails (steps_in v) (step_line id clause hints)) viewed t.0,
-      ap (λ cs. check_state vars count ids cs) t.1 ∙ viewed,
-    )
-
-pub state_added : (vars count : ℕ) (ids more : List ℕ) (before after : List (List AtomLit)) (view : CheckState) (id : ℕ)
-    (clause : List Lit) (hints : List ℕ) (passes : Bool) → check_state vars count ids before ≡ view
-    → LineTakes (steps_so count ids before) before after clause hints passes → passes ≡ true → more ≡ ids ++ id ∷ []
-    → IsAdded view (check_state vars count more after) (step_line id clause hints)
-state_added vars count ids more before after view id clause hints passes viewed h e pushed =
-    let t : LineTakes (steps_so count ids before) before after clause hints true
-    = subst (λ b. LineTakes (steps_so count ids before) before after clause hints b) e h in
-    subst (λ v. IsAdded v (check_state vars count more after) (step_line id clause hints)) viewed (record {
-      passes = t.0;
-      after_is = ap (λ is. check_state vars count is after) pushed
-          ∙ ap (λ cs. check_state vars count (ids ++ id ∷ []) cs) t.1;
-    })
+-- while a clause is added nothing is told of the clauses
+pub cut_off : (vars : ℕ) (clauses : List (List AtomLit)) → vars ≤ MAX_VARIABLE → IsSpelledTable vars false clauses
+cut_off vars clauses few = record { few = few; spelled = λ e. let no : false ≡ true = e in absurd (cc) }

@@ -1,13 +1,10 @@
 -- The check of the lines of a refutation, one after the other.
-use Rattle.std.specs.Prelude.{◌≡◌, ◌≢◌, ◌⊎◌, ℕ, ◌+◌, ◌<◌, ◌≤◌, ◌==◌, ◌^◌, Bool, true, false, List, [], ◌∷◌, ◌++◌, length, map, Contains, Option, None, Some, Ok, Err}
+use Rattle.std.specs.Prelude.{◌≡◌, ◌≢◌, ◌⊎◌, ℕ, ◌+◌, ◌<◌, ◌≤◌, ◌==◌, ◌^◌, List, [], ◌∷◌, ◌++◌, length, map, Contains, Option, None, Some, Ok, Err}
 use Rattle.std.specs.List.{position, range_with_len}
 use Rattle.std.specs.List.Sorted.{IsStrictlyIncreasing}
 use Rattle.plain_lits.specs.declared.lit.Lit.{Lit}
 use Rattle.plain_lits.specs.Literals.{negation}
 use Rattle.plain_lits.specs.HintCheck.{Checks}
-use Rattle.meaning_atoms.specs.declared.atom.AtomLit.{AtomLit}
-use Rattle.lrat_text.specs.Spelling.{spelled_clause, clauses_of}
-use Rattle.lrat_text.specs.declared.cnf.TheConstants.{MAX_VARIABLE}
 use Rattle.lrat_text.specs.declared.steps.Taken.{Taken}
 use Rattle.lrat_text.specs.declared.steps.Taken.TheVariants.{Failed, Passed, Empty}
 use Rattle.lrat_text.specs.declared.verdict.Verdict.{Verdict}
@@ -84,37 +81,25 @@ pub record CheckState : Type 0 where
   pub vars : ℕ
   pub count : ℕ
   pub ids : List ℕ
-  pub clauses : List (List AtomLit)
+  pub clauses : List (List Lit)
 
-abbrev pub check_state : ℕ → ℕ → List ℕ → List (List AtomLit) → CheckState
+abbrev pub check_state : ℕ → ℕ → List ℕ → List (List Lit) → CheckState
 check_state vars count ids clauses = record { vars = vars; count = count; ids = ids; clauses = clauses }
 
 -- the steps of a state
 abbrev pub steps_in : CheckState → StepList
-steps_in s = step_list (range_with_len 1 s.count ++ s.ids) (clauses_of s.clauses)
+steps_in s = step_list (range_with_len 1 s.count ++ s.ids) s.clauses
 
 -- no id of the state is over this one
 pub record IsLast (last : ℕ) (s : CheckState) : Type 0 where
   pub count : s.count ≤ last
   pub ids : (id : ℕ) → Contains s.ids id → id ≤ last
 
--- the ids of a state are in order, and its variables are not too many
-pub record IsCheckState (vars count : ℕ) (ids : List ℕ) : Type 0 where
-  pub in_order : AreIds count ids
-  pub few : vars ≤ MAX_VARIABLE
-
--- a clause with these hints passes and is added, or fails, beside these steps
-abbrev pub LineTakes : StepList → List (List AtomLit) → List (List AtomLit) → List Lit → List ℕ → Bool → Type 0
-LineTakes steps before after clause hints true = IsTaken steps.clauses clause (map (number_of steps.ids) hints)
-    × (after ≡ before ++ spelled_clause clause ∷ [])
-LineTakes steps before after clause hints false = IsRejected steps.clauses clause (map (number_of steps.ids) hints)
-    × (after ≡ before)
-
 -- the line passes, and is added
 pub record IsAdded (before after : CheckState) (line : StepLine) : Type 0 where
   pub passes : Passes (steps_in before) line
   pub after_is : after ≡ check_state before.vars before.count (before.ids ++ line.id ∷ [])
-      (before.clauses ++ spelled_clause line.clause ∷ [])
+      (before.clauses ++ line.clause ∷ [])
 
 -- what becomes of a line
 abbrev pub TakenAs : CheckState → CheckState → StepLine → Taken → Type 0

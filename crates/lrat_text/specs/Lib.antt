@@ -5,4 +5,6 @@ pub mod Lines
 pub mod LratText
 pub mod Numbers
 pub mod Spelling
+pub mod TableFormula
+pub mod Tables
 pub mod Unsatisfiable

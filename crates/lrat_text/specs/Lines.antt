@@ -1,7 +1,7 @@
 -- The lines of a CNF and of an LRAT text that say something.
 use Rattle.std.specs.Prelude.{ℕ, ◌==◌, ◌||◌, Bool, true, false, not, List, [], ◌∷◌, filter, slice_index, codes, nat_eq}
 use Rattle.std.specs.Cmp.Lexicographic.{pointwise}
-use Rattle.num_text.specs.Cuts.{LineText, field_texts, lines_of}
+use Rattle.num_text.specs.Cuts.{LineText, field_texts}
 
 -- no fields, or a first field that begins with `c`
 abbrev pub is_comment : List (List ℕ) → Bool

@@ -13,9 +13,12 @@ mod ids;
 mod laws;
 mod lrat;
 mod lrat_line;
+mod plain;
 mod signed;
 mod skips;
+mod spelled;
 mod steps;
+mod table;
 mod verdict;
 
 pub use cnf::{Cnf, MAX_VARIABLE, read_cnf};

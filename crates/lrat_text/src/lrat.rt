@@ -6,7 +6,6 @@ ghost use Rattle.lrat_text.specs.declared.verdict.Verdict.TheVariants.{Verified}
 ghost use Rattle.lrat_text.specs.LratText.{IsChecked, IsJudged, IsFaultOf, AreSomeSteps};
 ghost use Rattle.lrat_text.specs.Lines.{lrat_kept};
 ghost use Rattle.lrat_text.specs.Checking.{steps_in, IsLast};
-ghost use Rattle.lrat_text.specs.Spelling.{AreSpelled};
 ghost use Rattle.lrat_text.specs.Unsatisfiable.{HasNoModel};
 
 use crate::cnf::Cnf;
@@ -26,8 +25,7 @@ fn judge(
     step: &mut StepText,
     last: &mut u32,
 ) -> Result<Verdict, LratFault>
-    requires last { IsLast last.old steps.old }
-    requires spelled { AreSpelled steps.old.clauses }
+    requires { IsLast last.old steps.old }
     ensures judged { IfOk result
         (IsJudged steps.old.vars last.old (steps_in steps.old) (lrat_kept left.old) last.new (lrat_kept left.new)) }
     ensures fault { IfErr result (IsFaultOf steps.old.vars last.old (lrat_kept left.old)) }
@@ -72,7 +70,7 @@ pub fn check_lrat(alloc: Global, cnf: Cnf, bytes: &[u8]) -> Result<Verdict, Lrat
     ensures sound { result ≡ Ok Verified → HasNoModel cnf.clauses }
 {
     let mut left = lines(bytes);
-    let mut steps = Steps::new(alloc, cnf)?;
+    let mut steps = Steps::new(alloc, cnf, bytes.len())?;
     let mut step = StepText::new(alloc);
     let vars = steps.vars();
     let mut last = steps.count();

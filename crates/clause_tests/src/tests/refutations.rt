@@ -103,6 +103,9 @@ fn no_formulas(rt: HostRuntime) {
 // A variable and its negation.
 const CLASH: &str = "p cnf 1 2\n1 0\n-1 0\n";
 
+// The same, where the header tells so many variables that only those that occur get room.
+const WIDE_CLASH: &str = "p cnf 2147483647 2\n1 0\n-1 0\n";
+
 /// Refutations of the clash, and what is told of each.
 const VERDICTS: &[(&str, Verdict)] = &[
     ("3 0 1 2 0", Verified),
@@ -129,17 +132,25 @@ const VERDICTS: &[(&str, Verdict)] = &[
     ("3 1 0 1 0", NoEmptyClause),
 ];
 
+// Whether the check of a text with a formula tells this.
+fn comes_to(alloc: Global, cnf: &str, lrat: &str, verdict: Verdict) -> bool {
+    match told(alloc, cnf, lrat) {
+        Ok(found) => found == verdict,
+        Err(_) => false,
+    }
+}
+
 #[test]
 fn verdicts(rt: HostRuntime) {
     one_reading();
     one_verdict();
     verified_is_unsatisfiable();
     for &(text, verdict) in VERDICTS {
-        let holds = match told(rt.alloc(), CLASH, text) {
-            Ok(found) => found == verdict,
-            Err(_) => false,
-        };
-        assert!(rt; holds, "at {text}");
+        assert!(rt; comes_to(rt.alloc(), CLASH, text, verdict), "at {text}");
+        assert!(rt;
+            comes_to(rt.alloc(), WIDE_CLASH, text, verdict),
+            "at {text}, wide"
+        );
     }
 }
 

@@ -2,7 +2,6 @@ use Rattle.std.proofs.Common.{◌≡◌, length}
 use Rattle.lrat_text.specs.Checking.{IsLast, steps_in}
 use Rattle.lrat_text.specs.Lines.{lrat_kept}
 use Rattle.lrat_text.specs.LratText.{GoesOn}
-use Rattle.lrat_text.specs.Spelling.{AreSpelled}
 use Rattle.lrat_text.proofs.lrat.judge.Given as goal
 
 abbrev pub invariant-loop-line : goal.invariant-loop-line
@@ -11,7 +10,6 @@ invariant-loop-line l = record {
       (steps_in l.steps) (lrat_kept l.left);
   last : IsLast l.last l.steps;
   vars : l.steps.vars ≡ l.initial.steps.vars;
-  spelled : AreSpelled l.steps.clauses;
 }
 
 abbrev pub decreases-loop-line : goal.decreases-loop-line

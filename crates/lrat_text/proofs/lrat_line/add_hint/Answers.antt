@@ -1,4 +1,4 @@
-use Rattle.std.proofs.Common.{rules, subst, sym}
+use Rattle.std.proofs.Common.{rules, subst}
 use Rattle.std.specs.Prelude.{IfSome}
 use Rattle.num_text.specs.Number.{IsNumber}
 use Rattle.lrat_text.proofs.LineParts.{hint_more}

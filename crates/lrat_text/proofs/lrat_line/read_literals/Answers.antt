@@ -1,6 +1,6 @@
 use Rattle.std.proofs.Common.{sym, map, ap, ◌∙◌}
 use Rattle.lrat_text.specs.LratText.{LiteralsSay}
-use Rattle.lrat_text.proofs.LineParts.{part_read, pass_start, pass_next, pass_closed, pass_open, taken}
+use Rattle.lrat_text.proofs.LineParts.{part_read, pass_next, pass_closed, pass_open, taken}
 use Rattle.lrat_text.proofs.lrat_line.read_literals.Goals as goal
 
 pub returns-then-is_zero : goal.returns-then-is_zero

@@ -1,4 +1,4 @@
-use Rattle.std.proofs.Common.{rules, refl, sym, subst, ap, ◌∙◌}
+use Rattle.std.proofs.Common.{rules, refl, sym, subst}
 use Rattle.lrat_text.specs.LratText.{FaultsAt}
 use Rattle.lrat_text.proofs.LineCauses.{cut_from, parts_from, open_told, id_told, hints_told, literals_told, id_order_told}
 use Rattle.lrat_text.proofs.lrat_line.read_step.Goals as goal

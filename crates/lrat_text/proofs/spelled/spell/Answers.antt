@@ -1,7 +1,7 @@
 use Rattle.std.proofs.Common.{false}
 use Rattle.plain_lits.specs.declared.lit.Lit.{Lit}
 use Rattle.plain_lits.proofs.CheckingLemmas.{item_read, item_member}
-use Rattle.lrat_text.proofs.steps.spell.Goals as goal
+use Rattle.lrat_text.proofs.spelled.spell.Goals as goal
 
 abbrev blank : Lit
 blank = record { var = 0; positive = false }
