@@ -305,6 +305,18 @@ for it in "-f f.cnf -o f" "-f f.af -o e" "-f f.af -o ./answer"; do
 done
 is "its files are as they were" "$(cmp f.cnf f.af && cmp e.cnf kept.k && cmp answer.lrat kept.a && echo same)" same
 
+# A folder that isn't there, and a full disk: the certificate, and the first or the second text.
+ln -s /dev/full full.cnf && ln -s /dev/full late.lrat
+for it in nowhere/k full.cnf; do
+    run ./argue -p SE-PR -f f.af -c $it
+    is "-c $it" "$status $out" "4 "
+done
+for it in nowhere/pair full late; do
+    run ./argue export -p EE-PR -f f.af -r answer.lrat -c e.cnf -i 1 -o $it
+    is "export -o $it" "$status $out" "4 "
+done
+is "what went before stays" "$(head -c 5 late.cnf)$(ls nowhere full.lrat 2>/dev/null)" "p cnf"
+
 # Words: the script tells a fault exactly where the program refuses them.
 told=0
 while read -r line; do

@@ -1,7 +1,7 @@
 -- The inputs of a check, read one after the other.
 use Rattle.std.proofs.Common.{◌≡◌, ◌≢◌, ◌∙◌, ◌⊎◌, ◌<◌, ℕ, zero, suc, arith, List, [], ◌∷◌, refl, sym, subst, inl}
 use Rattle.std.proofs.Common.{inr, ⊎_elim, Err, Ok}
-use Rattle.std.specs.Prelude.{Contains, IsSome, IfErr, OnOk, Result}
+use Rattle.std.specs.Prelude.{Contains, IsSome, IfErr, Result}
 use Rattle.argue_outside.specs.Outside.{HoldsStill, KnownFile}
 use Rattle.argue_outside.specs.declared.Role.{Role}
 use Rattle.argue_outside.specs.declared.Role.TheVariants as role

@@ -5,3 +5,4 @@ pub mod PieceLemmas
 pub mod Readable
 pub mod Verifies
 pub mod ZeroLines
+pub mod WriterLemmas

@@ -1,19 +1,19 @@
 -- What is added piece by piece is the text.
-use Rattle.std.proofs.Common.{◌≡◌, ℕ, ◌+◌, ◌-◌, ◌<◌, ◌≤◌, List, [], ◌∷◌, ◌++◌, length, length-append, map, take, fold, refl, sym, ap, subst, ◌∙◌, arith, codes, append_assoc, get_or}
+use Rattle.std.proofs.Common.{◌≡◌, ℕ, ◌+◌, List, [], ◌∷◌, ◌++◌, length, length-append, map, refl, sym, ap, ◌∙◌, arith, codes, append_assoc}
 use Rattle.std.specs.List.{flat_map, range_with_len}
 use Rattle.std.specs.Fmt.{decimal}
 use Rattle.std.proofs.lemmas.Grind.{flat_map-append}
-use Rattle.std.proofs.lemmas.List.{append-nil, length-map, length_push, map-append}
-use Rattle.std.proofs.lemmas.List.Sums.{fold_more}
+use Rattle.std.proofs.lemmas.List.{append-nil, length-map, map-append}
 use Rattle.plain_lits.specs.declared.lit.Lit.{Lit}
 use Rattle.plain_lits.specs.Literals.{negation}
-use Rattle.hinted_log.specs.Logs.{Step, no_step, step_at}
+use Rattle.hinted_log.specs.Logs.{Step}
 use Rattle.hinted_log.specs.declared.step_kind.StepKind.{StepKind}
 use Rattle.hinted_log.specs.declared.step_kind.StepKind.TheVariants.{Axiom, Side, Derived}
-use Rattle.lrat_text.specs.Checking.{StepLine, step_line}
-use Rattle.lrat_writing.specs.Texts.{lit_text, spaced, clause_line, header_line, cnf_text, step_fields, step_text, lrat_text}
-use Rattle.lrat_writing.specs.Pieces.{literal_piece, number_piece, clause_piece, unit_piece, kind_piece, given_piece, IsWritten}
-use Rattle.lrat_writing.specs.Walks.{shifted, shifted_clause, given_by, given_of, given_clauses, last_clause, unit_of, cnf_clauses, formula_of, Walk, start, id_in, next_id, final_line, step_lines, walk, walk_on, walk_step}
+use Rattle.lrat_text.specs.Numbers.{sign_text}
+use Rattle.lrat_text.specs.Checking.{step_line}
+use Rattle.lrat_writing.specs.Texts.{lit_text, spaced, clause_line, header_line, cnf_text, step_text}
+use Rattle.lrat_writing.specs.Pieces.{literal_piece, number_piece, unit_piece, kind_piece, given_piece}
+use Rattle.lrat_writing.specs.Walks.{shifted_clause, given_by, given_of, given_clauses, last_clause, unit_of, cnf_clauses, formula_of, id_in}
 use Rattle.lrat_writing.proofs.Verifies.{row_more}
 
 -- ---- fields with blanks
@@ -65,26 +65,26 @@ five_pieces t0 t1 t2 t3 t4 t5 a b c d e h1 h2 h3 h4 h5 =
     ∙ ap (λ x. x ++ (c ++ (d ++ e))) h2 ∙ append_assoc t1 b (c ++ (d ++ e))
     ∙ ap (λ x. x ++ (b ++ (c ++ (d ++ e)))) h1 ∙ append_assoc t0 a (b ++ (c ++ (d ++ e)))
 
-pub three_pieces : (t0 t1 t2 t3 a b c : List ℕ) → t1 ≡ t0 ++ a → t2 ≡ t1 ++ b → t3 ≡ t2 ++ c
-    → t3 ≡ t0 ++ (a ++ (b ++ c))
-three_pieces t0 t1 t2 t3 a b c h1 h2 h3 =
-    h3 ∙ ap (λ x. x ++ c) h2 ∙ append_assoc t1 b c ∙ ap (λ x. x ++ (b ++ c)) h1 ∙ append_assoc t0 a (b ++ c)
-
 -- the line without literals
 pub final_text : (id : ℕ) (row : List ℕ) (last : ℕ)
     → step_text (step_line id [] (row ++ last ∷ []))
-    ≡ (decimal id ++ codes " 0 ") ++ (flat_map number_piece row ++ (decimal last ++ codes " 0\n"))
+    ≡ number_piece id ++ (codes "0 " ++ (flat_map number_piece row ++ (number_piece last ++ codes "0\n")))
 final_text id row last =
     let f = flat_map number_piece row in
     let hints : spaced (map decimal (row ++ last ∷ [])) ≡ f ++ number_piece last
     = numbers_spaced (row ++ last ∷ []) ∙ flat_map-append number_piece row (last ∷ [])
     ∙ ap (λ x. f ++ x) (append-nil (number_piece last)) in
-    let tail : spaced (map decimal (row ++ last ∷ [])) ++ codes "0\n" ≡ f ++ (decimal last ++ codes " 0\n")
-    = ap (λ x. x ++ codes "0\n") hints ∙ append_assoc f (number_piece last) (codes "0\n")
-    ∙ ap (λ x. f ++ x) (append_assoc (decimal last) (32 ∷ []) (codes "0\n")) in
-    any_line id [] (row ++ last ∷ []) ∙ ap (λ x. number_piece id ++ (codes "0 " ++ x)) tail
-    ∙ append_assoc (decimal id) (32 ∷ []) (codes "0 " ++ (f ++ (decimal last ++ codes " 0\n")))
-    ∙ sym (append_assoc (decimal id) (codes " 0 ") (f ++ (decimal last ++ codes " 0\n")))
+    any_line id [] (row ++ last ∷ [])
+    ∙ ap (λ x. number_piece id ++ (codes "0 " ++ x)) (ap (λ x. x ++ codes "0\n") hints
+    ∙ append_assoc f (number_piece last) (codes "0\n"))
+
+-- a sign, and a number behind it
+pub literal_written : (base text new : List ℕ) (l : Lit) (number : ℕ) → text ≡ base ++ sign_text l.positive
+    → new ≡ text ++ number_piece number → number ≡ l.var + 1 → new ≡ base ++ literal_piece l
+literal_written base text new l number h more is =
+    more ∙ ap (λ x. x ++ number_piece number) h ∙ append_assoc base (sign_text l.positive) (number_piece number)
+    ∙ ap (λ n. base ++ (sign_text l.positive ++ number_piece n)) is
+    ∙ ap (λ x. base ++ x) (sym (append_assoc (sign_text l.positive) (decimal (l.var + 1)) (32 ∷ [])))
 
 -- numbers in a row, with one more
 pub row_written : (base text new : List ℕ) (first index number : ℕ)
@@ -139,33 +139,6 @@ pub cnf_count : (steps : List Step) (given : ℕ) (last : List Lit) → given �
     → last ≡ last_clause steps → given + length last ≡ length (cnf_clauses steps)
 cnf_count steps given last e same = let a = cnf_long steps in let b = ap length same in omega (arith, a, b, e)
 
-lines_with : (count : ℕ) (w : Walk) (kind : StepKind) (clause : List Lit) (hints : List ℕ)
-    → length (walk_on count w kind clause hints).lines + length (given_by kind clause) ≡ length w.lines + 1
-lines_with count w Axiom clause hints = refl
-lines_with count w Side clause hints = refl
-lines_with count w Derived clause hints =
-    let line = step_line (next_id count w) (shifted_clause clause) (map (id_in w.ids) hints) in
-    omega (arith, length_push w.lines line)
-
-lines_after : (count : ℕ) (steps : List Step) (w : Walk)
-    → length (fold (walk_step count) w steps).lines + length (given_clauses steps) ≡ length w.lines + length steps
-lines_after count [] w = refl
-lines_after count (s ∷ ss) w =
-    let one = lines_with count w s.kind s.clause s.hints in
-    let rest = lines_after count ss (walk_step count w s) in
-    let long = length-append (given_of s) (given_clauses ss) in
-    omega (arith, one, rest, long)
-
--- a line for each derived step, and the one without literals
-pub line_count : (steps : List Step) (all given : ℕ) → all ≡ length steps → given ≡ length (given_clauses steps)
-    → all - given + 1 ≡ length (step_lines steps)
-line_count steps all given many few =
-    let count = length (cnf_clauses steps) in
-    let w = walk count steps in
-    let sum = lines_after count steps start in
-    let more = length_push w.lines (final_line count steps w) in
-    omega (arith, many, few, sum, more)
-
 pub cnf_written : (vars count : ℕ) (steps : List Step) (last : List Lit) (t1 t2 t3 : List ℕ)
     → count ≡ length (cnf_clauses steps) → last ≡ last_clause steps → t1 ≡ header_line vars count
     → t2 ≡ t1 ++ flat_map given_piece steps → t3 ≡ t2 ++ flat_map unit_piece last
@@ -184,20 +157,3 @@ cnf_written vars count steps last t1 t2 t3 counted same h1 h2 h3 =
     ∙ ap (λ x. x ++ (flat_map given_piece steps ++ flat_map unit_piece (last_clause steps)))
     (h1 ∙ ap (header_line vars) counted)
     ∙ ap (λ x. header_line vars (length (cnf_clauses steps)) ++ x) (sym all)
-
--- ---- the walk
-
-pub walked : (count : ℕ) (steps : List Step) (index number : ℕ) (base text ids : List ℕ) (given lines : ℕ)
-    → index < length steps → number ≡ index + 1
-    → IsWritten base (walk_step count (walk count (take index steps)) (step_at steps number)) text ids given lines
-    → IsWritten base (walk count (take (index + 1) steps)) text ids given lines
-walked count steps index number base text ids given lines lt is h =
-    subst (λ w. IsWritten base w text ids given lines)
-    (ap (λ s. walk_step count (walk count (take index steps)) s) (step_here steps index number is)
-    ∙ sym (fold_more (walk_step count) start steps index no_step lt)) h
-  where
-    step_here : (steps : List Step) (index number : ℕ) → number ≡ index + 1
-        → step_at steps number ≡ get_or steps index no_step
-    step_here steps index number is =
-        let e : number - 1 ≡ index = omega arith in
-        ap (λ n. get_or steps n no_step) e

@@ -1,35 +1,53 @@
 //! Writing the clauses of a log.
 
-ghost use Rattle.std.specs.Prelude.{◌≡◌, ◌<◌, ◌≤◌, ◌+◌, ◌++◌, ◌∷◌, [], length, IfOk, OnOk, ℕ};
+ghost use Rattle.std.specs.Prelude.{◌≡◌, ◌<◌, ◌≤◌, ◌+◌, ◌++◌, length, OnOk};
 ghost use Rattle.std.specs.List.{flat_map};
-ghost use Rattle.std.specs.String.{string_bytes};
-ghost use Rattle.hinted_log.specs.Logs.{IsStepOf, step_at};
-ghost use Rattle.lrat_writing.specs.Texts.{cnf_text};
-ghost use Rattle.lrat_writing.specs.Pieces.{literal_piece, clause_piece, unit_piece, given_piece, kind_count};
-ghost use Rattle.lrat_writing.specs.Walks.{cnf_clauses, formula_of, given_clauses, step_lines};
+ghost use Rattle.lrat_text.specs.Numbers.{sign_text};
+ghost use Rattle.lrat_writing.specs.Pieces.{literal_piece, number_piece, clause_piece, unit_piece, kind_count};
+ghost use Rattle.lrat_writing.specs.Walks.{cnf_clauses, given_clauses};
 
 use hinted_log::{Log, StepKind};
+use itoa::write_digits;
 use lists::Memory;
 use plain_lits::{Lit, PackedLit, StepId};
-use std::alloc::Global;
-use std::fmt::Write;
+
+// How many digits a number of 64 bits has at most.
+const DIGITS: usize = 20;
+
+/// Adds a number and a blank: `write!` takes three times as long, and most of a text is numbers.
+pub(crate) fn push_number(text: &mut Vec<u8>, number: u64) -> Result<(), Memory>
+    ensures { OnOk result (text.new.items ≡ text.old.items ++ number_piece number) }
+{
+    let mut piece = [b' '; DIGITS + 1];
+    let start = write_digits(number, &mut piece, DIGITS);
+    text.extend_from_slice(&piece[start..])?;
+    Ok(())
+}
+
+// Adds the `-` of a negation.
+fn push_sign(text: &mut Vec<u8>, positive: bool) -> Result<(), Memory>
+    ensures { OnOk result (text.new.items ≡ text.old.items ++ sign_text positive) }
+{
+    if positive {
+        return Ok(());
+    }
+    text.push(b'-')?;
+    Ok(())
+}
 
 // Adds a literal and a blank. Variables of a log begin at 0, those of a text at 1.
-fn push_literal(text: &mut String, lit: Lit) -> Result<(), Memory>
+fn push_literal(text: &mut Vec<u8>, lit: Lit) -> Result<(), Memory>
     requires { lit.var < 2147483648 }
-    ensures { OnOk result (string_bytes text.new ≡ string_bytes text.old ++ literal_piece lit) }
+    ensures { OnOk result (text.new.items ≡ text.old.items ++ literal_piece lit) }
 {
-    let number = lit.var + 1;
-    if !lit.positive {
-        text.push('-')?;
-    }
-    write!(text, "{number} ")?;
+    push_sign(text, lit.positive)?;
+    push_number(text, lit.var as u64 + 1)?;
     Ok(())
 }
 
 /// Adds the literals of a clause, with a blank behind each.
-pub(crate) fn push_literals(text: &mut String, clause: &[PackedLit]) -> Result<(), Memory>
-    ensures { OnOk result (string_bytes text.new ≡ string_bytes text.old ++ flat_map literal_piece clause.now) }
+pub(crate) fn push_literals(text: &mut Vec<u8>, clause: &[PackedLit]) -> Result<(), Memory>
+    ensures { OnOk result (text.new.items ≡ text.old.items ++ flat_map literal_piece clause.now) }
 {
     for packed in clause {
         push_literal(text, packed.lit())?;
@@ -37,44 +55,22 @@ pub(crate) fn push_literals(text: &mut String, clause: &[PackedLit]) -> Result<(
     Ok(())
 }
 
-// Adds the line of a clause.
-fn push_clause(text: &mut String, clause: &[PackedLit]) -> Result<(), Memory>
-    ensures { OnOk result (string_bytes text.new ≡ string_bytes text.old ++ clause_piece clause.now) }
+/// Adds the line of a clause.
+pub(crate) fn push_clause(text: &mut Vec<u8>, clause: &[PackedLit]) -> Result<(), Memory>
+    ensures { OnOk result (text.new.items ≡ text.old.items ++ clause_piece clause.now) }
 {
     push_literals(text, clause)?;
-    text.push_str("0\n")?;
+    text.extend_from_slice(b"0\n")?;
     Ok(())
 }
 
-// Adds a line for the negation of each literal of a clause.
-fn push_units(text: &mut String, clause: &[PackedLit]) -> Result<(), Memory>
-    ensures { OnOk result (string_bytes text.new ≡ string_bytes text.old ++ flat_map unit_piece clause.now) }
+/// Adds a line for the negation of each literal of a clause.
+pub(crate) fn push_units(text: &mut Vec<u8>, clause: &[PackedLit]) -> Result<(), Memory>
+    ensures { OnOk result (text.new.items ≡ text.old.items ++ flat_map unit_piece clause.now) }
 {
     for packed in clause {
         push_literal(text, !packed.lit())?;
-        text.push_str("0\n")?;
-    }
-    Ok(())
-}
-
-// Adds the line of a step, where it is given.
-fn push_given(text: &mut String, log: &Log, step: StepId) -> Result<(), Memory>
-    requires { IsStepOf log.now.steps step }
-    ensures { OnOk result (string_bytes text.new ≡ string_bytes text.old ++ given_piece (step_at log.now.steps step)) }
-{
-    match log.kind(step) {
-        StepKind::Axiom => push_clause(text, log.clause(step)),
-        StepKind::Side => push_clause(text, log.clause(step)),
-        StepKind::Derived => Ok(()),
-    }
-}
-
-// Adds the lines of the steps that are given.
-fn push_all_given(text: &mut String, log: &Log) -> Result<(), Memory>
-    ensures { OnOk result (string_bytes text.new ≡ string_bytes text.old ++ flat_map given_piece log.now.steps) }
-{
-    for index in 0..log.len() {
-        push_given(text, log, StepId::new(index as u32 + 1))?;
+        text.extend_from_slice(b"0\n")?;
     }
     Ok(())
 }
@@ -91,8 +87,8 @@ fn kind_count(kind: StepKind) -> usize
     }
 }
 
-/// How many steps of a log are given.
-pub(crate) fn given_count(log: &Log) -> usize
+// How many steps of a log are given.
+fn given_count(log: &Log) -> usize
     ensures count { result ≡ length (given_clauses log.now.steps) }
     ensures few { result ≤ length log.now.steps }
 {
@@ -106,28 +102,9 @@ pub(crate) fn given_count(log: &Log) -> usize
 /// How many clauses the CNF has that stands for a log.
 pub(crate) fn clause_count(log: &Log) -> usize
     requires { 0 < length log.now.steps }
-    ensures { result ≡ length (cnf_clauses log.now.steps) }
+    ensures count { result ≡ length (cnf_clauses log.now.steps) }
+    ensures few { result < 9223372036854775808 }
 {
     let last = log.clause(StepId::new(log.len() as u32));
     given_count(log) + last.len()
-}
-
-/// How many lines stand for a log: one for each derived step, and the one without literals.
-pub(crate) fn line_count(log: &Log) -> usize
-    ensures { result ≡ length (step_lines log.now.steps) }
-{
-    log.len() - given_count(log) + 1
-}
-
-/// The text of the CNF that stands for a log.
-pub(crate) fn cnf_of(alloc: Global, log: &Log, vars: u32) -> Result<String, Memory>
-    requires { 0 < length log.now.steps }
-    ensures { IfOk result (λ text. string_bytes text ≡ cnf_text (formula_of vars log.now.steps)) }
-{
-    let last = log.clause(StepId::new(log.len() as u32));
-    let count = clause_count(log);
-    let mut text = format!(in alloc; "p cnf {vars} {count}\n")?;
-    push_all_given(&mut text, log)?;
-    push_units(&mut text, last)?;
-    Ok(text)
 }

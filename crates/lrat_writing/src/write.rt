@@ -1,6 +1,6 @@
 //! Writing a log as two texts.
 
-ghost use Rattle.std.specs.Prelude.{◌≡◌, ◌<◌, ◌≤◌, length, Ok, IfOk};
+ghost use Rattle.std.specs.Prelude.{◌≡◌, ◌<◌, ◌≤◌, [], length, Ok, IfOk, OnOk};
 ghost use Rattle.num_text.specs.declared.limit.TheConstants.{MAX_INPUT};
 ghost use Rattle.plain_lits.specs.Checking.{HaveRoomFor};
 ghost use Rattle.plain_lits.specs.Literals.{LitsRise};
@@ -11,35 +11,39 @@ ghost use Rattle.lrat_text.specs.declared.cnf.TheConstants.{MAX_VARIABLE};
 ghost use Rattle.lrat_text.specs.declared.verdict.Verdict.TheVariants.{Verified};
 ghost use Rattle.lrat_writing.specs.Texts.{cnf_text, lrat_text};
 ghost use Rattle.lrat_writing.specs.Walks.{cnf_clauses, formula_of, last_clause, step_lines};
+ghost use Rattle.lrat_writing.specs.Writers.{AreTextsOf, IsWriterOf};
 
-use crate::clauses::{clause_count, cnf_of, line_count};
-use crate::steps::lrat_of;
+use crate::clauses::clause_count;
+use crate::writer::{Writer, Written};
 use hinted_log::Log;
-use lists::{Bytes, Memory};
+use lists::Memory;
+use plain_lits::StepId;
 use std::alloc::Global;
 
-/// The texts that stand for a log.
-pub struct Written {
-    /// The clauses that are given, and the negation of each literal of the last step.
-    pub cnf: Bytes,
-    /// The derived steps, and the line without literals.
-    pub lrat: Bytes,
-    /// How many clauses the CNF has.
-    pub clauses: usize,
-    /// How many lines there are.
-    pub lines: usize,
+// Writes the steps of a log.
+fn push_log(writer: &mut Writer, log: &Log) -> Result<(), Memory>
+    requires none { IsWriterOf [] writer.old }
+    requires count { writer.old.count < 9223372036854775808 }
+    ensures steps { OnOk result (IsWriterOf log.now.steps writer.new) }
+    ensures count { OnOk result (writer.new.count ≡ writer.old.count) }
+{
+    for index in 0..log.len() {
+        let step = StepId::new(index as u32 + 1);
+        writer.push(log.kind(step), log.clause(step), log.hints(step))?;
+    }
+    Ok(())
 }
 
-// By hand, so that a drop is one call (docs/PROVING.md).
-impl Drop for Written {
-    fn drop(self) {
-        let Written {
-            cnf: _,
-            lrat: _,
-            clauses: _,
-            lines: _,
-        } = self;
-    }
+// Writes a log.
+fn write_log(alloc: Global, log: &Log, vars: u32) -> Result<Written, Memory>
+    requires { 0 < length log.now.steps }
+    ensures { IfOk result (AreTextsOf vars log.now.steps) }
+{
+    let last = StepId::new(log.len() as u32);
+    let mut writer = Writer::new(alloc, clause_count(log) as u64);
+    push_log(&mut writer, log)?;
+    let written = writer.finish(alloc, vars, log.clause(last))?;
+    Ok(written)
 }
 
 /// The texts that stand for a log whose last clause follows from the clauses that are given: a CNF of `vars` variables,
@@ -62,14 +66,6 @@ pub fn write_refutation(alloc: Global, log: &Log, vars: u32) -> Result<Written, 
         → IsChecked (formula_of vars log.now.steps) w.lrat (Ok Verified)) }
 {
     let _count = log.len();
-    let clauses = clause_count(log);
-    let lines = line_count(log);
-    let cnf = cnf_of(alloc, log, vars)?;
-    let lrat = lrat_of(alloc, log)?;
-    Ok(Written {
-        cnf: Bytes::from_vec(cnf.into_bytes()),
-        lrat: Bytes::from_vec(lrat.into_bytes()),
-        clauses,
-        lines,
-    })
+    let written = write_log(alloc, log, vars)?;
+    Ok(written)
 }

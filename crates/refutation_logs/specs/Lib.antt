@@ -1,3 +1,4 @@
 pub mod Variables
 pub mod Logged
+pub mod Tables
 pub mod Exports

@@ -9,10 +9,10 @@ use Rattle.meaning_atoms.specs.Literals.{negated}
 use Rattle.certificate_claims.specs.declared.certificate.Step.{Step}
 use Rattle.certificate_claims.specs.declared.certificate.Step.TheVariants as step_of
 use Rattle.certificate_claims.specs.Refutations.{IsAxiomOf, StepHolds, no_step, step_clause, step_clauses}
-use Rattle.hinted_log.specs.Logs.{LogState, Step as LogStep, clauses_of, no_step as no_logged, with_step}
+use Rattle.hinted_log.specs.Logs.{Step as LogStep, no_step as no_logged}
 use Rattle.hinted_log.specs.declared.step_kind.StepKind.{StepKind}
 use Rattle.hinted_log.specs.declared.step_kind.StepKind.TheVariants as kind
-use Rattle.refutation_logs.specs.Variables.{AreStanding, IsShown, StandsFor, atoms_of, with_atoms}
+use Rattle.refutation_logs.specs.Variables.{IsShown, StandsFor, atoms_of}
 
 -- each step stands behind those before it
 pub record AllHold (f : Framework) (sides : List (List AtomLit)) (steps : List Step) : Type 0 where
@@ -58,15 +58,3 @@ abbrev pub CanBeAdded : Framework → ℕ → List Atom → List (List Lit) → 
 CanBeAdded f count atoms logged (step_of.Axiom name) = IsAxiomOf f name
 CanBeAdded f count atoms logged (step_of.Side number) = (1 ≤ number) × (number ≤ count)
 CanBeAdded f count atoms logged (step_of.Derived literals hints) = IsShown atoms logged literals hints
-
--- a step is added to a log, and its atoms to the others; whichever clauses those of the log stand for, its hints are
--- those by which the check takes it behind these
-pub record AddsStepFor (sides : List (List AtomLit)) (step : Step) (old_atoms atoms : List Atom)
-    (old new : LogState) : Type 0 where
-  pub logged : LogStep
-  pub added : new ≡ with_step old logged
-  pub appearance : atoms ≡ with_atoms old_atoms (step_clause sides step)
-  pub kind : logged.kind ≡ kind_of step
-  pub clause : StandsFor atoms (step_clause sides step) logged.clause
-  pub hints : (clauses : List (List AtomLit)) → AreStanding old_atoms clauses (clauses_of old.steps)
-      → HasHints clauses step logged.hints

@@ -2,6 +2,7 @@
 #![tactic(auto)]
 
 mod certificate;
+mod counts;
 mod numbering;
 mod steps;
 pub mod texts;

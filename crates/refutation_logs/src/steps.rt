@@ -1,38 +1,64 @@
-//! The steps of a refutation as those of a log.
+//! The steps of a refutation, checked over numbered variables and written.
 
-ghost use Rattle.std.specs.Prelude.{◌≡◌, ◌<◌, ◌≤◌, [], length, IfOk, OnOk};
+ghost use Rattle.std.specs.Prelude.{◌≡◌, ◌<◌, ◌≤◌, ◌+◌, ℕ, [], length, Err, Ok, OnOk};
 ghost use Rattle.edit_rules.specs.Kinds.{framework_of};
+ghost use Rattle.plain_lits.specs.Checking.{HasRoomFor, HaveRoomFor};
+ghost use Rattle.plain_lits.specs.HintCheck.{Checks};
+ghost use Rattle.plain_lits.specs.Literals.{negation};
 ghost use Rattle.certificate_claims.specs.declared.certificate.Step.TheVariants.{Axiom, Derived, Side};
 ghost use Rattle.certificate_claims.specs.Refutations.{IsAxiomOf};
 ghost use Rattle.answer_claims.specs.SideClauses.{sides_of};
-ghost use Rattle.hinted_log.specs.Logs.{clauses_of};
-ghost use Rattle.refutation_logs.specs.Logged.{AddsStepFor, AllHold, CanBeAdded, IsLogFor};
+ghost use Rattle.atom_table.specs.Numbering.{AreDifferent};
+ghost use Rattle.hinted_log.specs.declared.log.TheConstants.{MAX_STEPS};
+ghost use Rattle.lrat_writing.specs.Writers.{IsWriterOf};
+ghost use Rattle.refutation_logs.specs.Logged.{AllHold, CanBeAdded};
+ghost use Rattle.refutation_logs.specs.Tables.{AddsStepFor, IsLogged};
 ghost use Rattle.refutation_logs.specs.Variables.{IsShown};
 
-use crate::numbering::numbered;
+use crate::numbering::number;
 use answer_claims::{SideKind, side_clause};
 use atom_table::AtomTable;
 use certificate_claims::{Step, clause_of_axiom};
 use edit_rules::Framework;
-use hinted_log::{Log, LogFault, MAX_STEPS};
+use hinted_log::StepKind;
 use lists::Memory;
+use lrat_writing::Writer;
 use meaning_atoms::{AtomLit, AxiomName};
-use plain_lits::StepId;
+use plain_lits::check::check;
+use plain_lits::{Lit, PackedLit, Rows, StepId, Trail};
 use set_lists::NumSet;
 use std::alloc::Global;
 
-/// A log, and the atoms that its variables stand for.
-pub(crate) struct RefutationLog {
-    /// The steps.
-    pub log: Log,
+/// The clauses of steps over numbered variables, and what the check of one more takes: the lists are used again for each.
+#[derive(Drop)]
+pub(crate) struct Table {
     /// The atom of each variable.
     pub atoms: AtomTable,
+    /// The clause of each step.
+    pub clauses: Rows<PackedLit>,
+    /// What the check assumes, which it takes back.
+    pub trail: Trail,
+    /// The literals of the step at hand.
+    pub lits: Vec<Lit>,
+    /// These, packed.
+    pub packed: Vec<PackedLit>,
+    /// The hints of the step at hand.
+    pub hints: Vec<StepId>,
 }
 
-// By hand, so that a drop is one call (docs/PROVING.md).
-impl Drop for RefutationLog {
-    fn drop(self) {
-        let RefutationLog { log: _, atoms: _ } = self;
+/// The table without steps.
+pub(crate) fn new_table(alloc: Global) -> Table
+    ensures atoms { result.atoms ≡ [] }
+    ensures clauses { result.clauses ≡ [] }
+    ensures idle { result.trail.lits ≡ [] }
+{
+    Table {
+        atoms: AtomTable::new(alloc),
+        clauses: Rows::new(alloc),
+        trail: Trail::new(alloc),
+        lits: Vec::new(alloc),
+        packed: Vec::new(alloc),
+        hints: Vec::new(alloc),
     }
 }
 
@@ -43,22 +69,27 @@ fn add_axiom(
     kind: SideKind,
     sets: &[NumSet],
     name: &AxiomName,
-    atoms: &mut AtomTable,
-    log: &mut Log,
+    table: &mut Table,
+    writer: &mut Writer,
 ) -> Result<(), Memory>
     requires axiom { IsAxiomOf (framework_of framework.now) name.now }
-    requires room { length log.old.steps < log.old.limit }
+    requires few { writer.old.given + writer.old.lines < 4294967296 }
+    requires count { writer.old.count < 9223372036854775808 }
+    requires idle { table.old.trail.lits ≡ [] }
     ensures { OnOk result (AddsStepFor (sides_of (framework_of framework.now) kind sets.now) (Axiom name.now)
-        atoms.old atoms.new log.old log.new) }
+        table.old table.new writer.old writer.new) }
 {
     let given = clause_of_axiom(alloc, name)?;
-    let clause = numbered(alloc, atoms, given.as_slice())?;
-    match log.axiom(clause) {
-        Ok(_) => Ok(()),
-        Err(LogFault::Memory) => Err(Memory),
-        Err(LogFault::LogFull) => unreachable!(),
-        Err(LogFault::Rejected(_)) => unreachable!(),
-    }
+    number(
+        &mut table.atoms,
+        given.as_slice(),
+        &mut table.lits,
+        &mut table.packed,
+    )?;
+    let packed = table.packed.as_slice();
+    table.clauses.push(packed)?;
+    writer.push(StepKind::Axiom, packed, &[])?;
+    Ok(())
 }
 
 // Adds a side clause by its number.
@@ -67,62 +98,105 @@ fn add_side(
     framework: &Framework,
     kind: SideKind,
     sets: &[NumSet],
-    number: u32,
-    atoms: &mut AtomTable,
-    log: &mut Log,
+    place: u32,
+    table: &mut Table,
+    writer: &mut Writer,
 ) -> Result<(), Memory>
-    requires from_one { 1 ≤ number }
-    requires within { number ≤ length sets.now }
-    requires room { length log.old.steps < log.old.limit }
-    ensures { OnOk result (AddsStepFor (sides_of (framework_of framework.now) kind sets.now) (Side number)
-        atoms.old atoms.new log.old log.new) }
+    requires from_one { 1 ≤ place }
+    requires within { place ≤ length sets.now }
+    requires few { writer.old.given + writer.old.lines < 4294967296 }
+    requires count { writer.old.count < 9223372036854775808 }
+    requires idle { table.old.trail.lits ≡ [] }
+    ensures { OnOk result (AddsStepFor (sides_of (framework_of framework.now) kind sets.now) (Side place)
+        table.old table.new writer.old writer.new) }
 {
-    let given = side_clause(alloc, framework, kind, &sets[number as usize - 1], number)?;
-    let clause = numbered(alloc, atoms, given.as_slice())?;
-    match log.side(clause) {
-        Ok(_) => Ok(()),
-        Err(LogFault::Memory) => Err(Memory),
-        Err(LogFault::LogFull) => unreachable!(),
-        Err(LogFault::Rejected(_)) => unreachable!(),
-    }
+    let given = side_clause(alloc, framework, kind, &sets[place as usize - 1], place)?;
+    number(
+        &mut table.atoms,
+        given.as_slice(),
+        &mut table.lits,
+        &mut table.packed,
+    )?;
+    let packed = table.packed.as_slice();
+    table.clauses.push(packed)?;
+    writer.push(StepKind::Side, packed, &[])?;
+    Ok(())
 }
 
-// The steps of these numbers.
-fn named(alloc: Global, hints: &[u32]) -> Result<Vec<StepId>, Memory>
-    ensures { IfOk result (λ steps. steps.items ≡ hints.now) }
+// Lists the steps of these numbers.
+fn name(hints: &[u32], steps: &mut Vec<StepId>) -> Result<(), Memory>
+    ensures { OnOk result (steps.new.items ≡ hints.now) }
 {
-    let mut steps = Vec::new(alloc);
+    steps.clear();
     for hint in hints {
         steps.push(StepId::new(*hint))?;
     }
-    Ok(steps)
+    Ok(())
+}
+
+// Makes room for the variables of atoms.
+fn make_room(atoms: &AtomTable, trail: &mut Trail) -> Result<(), Memory>
+    ensures room { OnOk result (length atoms.now ≤ trail.new.vars) }
+    ensures different { AreDifferent atoms.now }
+    ensures idle { trail.new.lits ≡ trail.old.lits }
+{
+    trail.make_room(atoms.len())?;
+    Ok(())
+}
+
+// How many hints the check of a clause that it takes looks at.
+fn hints_used(
+    trail: &mut Trail,
+    clauses: &Rows<PackedLit>,
+    clause: &[Lit],
+    hints: &[StepId],
+) -> usize
+    requires idle { trail.old.lits ≡ [] }
+    requires clause_room { HasRoomFor trail.old.vars clause.now }
+    requires room { HaveRoomFor trail.old.vars clauses.now }
+    requires taken { (place : ℕ) → Checks negation clauses.now clause.now hints.now (Err place) → ⊥ }
+    ensures taken { Checks negation clauses.now clause.now hints.now (Ok result) }
+    ensures idle { trail.new.lits ≡ [] }
+{
+    match check(trail, clauses, clause, hints) {
+        Ok(used) => used,
+        Err(_) => unreachable!(),
+    }
 }
 
 // Adds a clause that follows by hints.
 fn add_derived(
-    alloc: Global,
     framework: &Framework,
     kind: SideKind,
     sets: &[NumSet],
     literals: &[AtomLit],
     hints: &[u32],
-    atoms: &mut AtomTable,
-    log: &mut Log,
+    table: &mut Table,
+    writer: &mut Writer,
 ) -> Result<(), Memory>
-    requires shown { IsShown atoms.old (clauses_of log.old.steps) literals.now hints.now }
-    requires room { length log.old.steps < log.old.limit }
+    requires shown { IsShown table.old.atoms table.old.clauses literals.now hints.now }
+    requires few { writer.old.given + writer.old.lines < 4294967296 }
+    requires count { writer.old.count < 9223372036854775808 }
+    requires idle { table.old.trail.lits ≡ [] }
     ensures { OnOk result (AddsStepFor (sides_of (framework_of framework.now) kind sets.now)
-        (Derived literals.now hints.now) atoms.old atoms.new log.old log.new) }
+        (Derived literals.now hints.now) table.old table.new writer.old writer.new) }
 {
-    let steps = named(alloc, hints)?;
-    let clause = numbered(alloc, atoms, literals)?;
-    let _count = atoms.len();
-    match log.derive(clause, steps.as_slice()) {
-        Ok(_) => Ok(()),
-        Err(LogFault::Memory) => Err(Memory),
-        Err(LogFault::LogFull) => unreachable!(),
-        Err(LogFault::Rejected(_)) => unreachable!(),
-    }
+    name(hints, &mut table.hints)?;
+    number(
+        &mut table.atoms,
+        literals,
+        &mut table.lits,
+        &mut table.packed,
+    )?;
+    make_room(&table.atoms, &mut table.trail)?;
+    let lits = table.lits.as_slice();
+    let steps = table.hints.as_slice();
+    let used = hints_used(&mut table.trail, &table.clauses, lits, steps);
+    let kept = &steps[..used];
+    let packed = table.packed.as_slice();
+    table.clauses.push(packed)?;
+    writer.push(StepKind::Derived, packed, kept)?;
+    Ok(())
 }
 
 // Adds a step.
@@ -132,70 +206,53 @@ fn add_step(
     kind: SideKind,
     sets: &[NumSet],
     step: &Step,
-    atoms: &mut AtomTable,
-    log: &mut Log,
+    table: &mut Table,
+    writer: &mut Writer,
 ) -> Result<(), Memory>
-    requires step { CanBeAdded (framework_of framework.now) (length sets.now) atoms.old (clauses_of log.old.steps)
+    requires step { CanBeAdded (framework_of framework.now) (length sets.now) table.old.atoms table.old.clauses
         step.now }
-    requires room { length log.old.steps < log.old.limit }
+    requires few { writer.old.given + writer.old.lines < 4294967296 }
+    requires count { writer.old.count < 9223372036854775808 }
+    requires idle { table.old.trail.lits ≡ [] }
     ensures { OnOk result (AddsStepFor (sides_of (framework_of framework.now) kind sets.now) step.now
-        atoms.old atoms.new log.old log.new) }
+        table.old table.new writer.old writer.new) }
 {
     match step {
-        Step::Axiom(name) => add_axiom(alloc, framework, kind, sets, name, atoms, log),
-        Step::Side(number) => add_side(alloc, framework, kind, sets, *number, atoms, log),
+        Step::Axiom(name) => add_axiom(alloc, framework, kind, sets, name, table, writer),
+        Step::Side(number) => add_side(alloc, framework, kind, sets, *number, table, writer),
         Step::Derived(literals, hints) => {
             let (literals, hints) = (literals.as_slice(), hints.as_slice());
-            add_derived(alloc, framework, kind, sets, literals, hints, atoms, log)
+            add_derived(framework, kind, sets, literals, hints, table, writer)
         }
     }
 }
 
-// Adds all steps.
-fn add_steps(
+/// Adds the steps of a refutation, which stand beside the side clauses of sets, to an empty table and a writer that has
+/// written none. `Memory` says that an allocation was refused.
+pub(crate) fn add_steps(
     alloc: Global,
     framework: &Framework,
     kind: SideKind,
     sets: &[NumSet],
     steps: &[Step],
-    atoms: &mut AtomTable,
-    log: &mut Log,
+    table: &mut Table,
+    writer: &mut Writer,
 ) -> Result<(), Memory>
     requires hold { AllHold (framework_of framework.now)
         (sides_of (framework_of framework.now) kind sets.now) steps.now }
-    requires atoms { atoms.old ≡ [] }
-    requires none { log.old.steps ≡ [] }
-    requires limit { log.old.limit ≡ length steps.now }
-    ensures { OnOk result (IsLogFor (sides_of (framework_of framework.now) kind sets.now) steps.now
-        atoms.new log.new.steps) }
+    requires few { length steps.now ≤ MAX_STEPS }
+    requires atoms { table.old.atoms ≡ [] }
+    requires clauses { table.old.clauses ≡ [] }
+    requires idle { table.old.trail.lits ≡ [] }
+    requires none { IsWriterOf [] writer.old }
+    requires count { writer.old.count < 9223372036854775808 }
+    ensures logged { OnOk result (IsLogged (sides_of (framework_of framework.now) kind sets.now) steps.now
+        table.new writer.new) }
+    ensures count { OnOk result (writer.new.count ≡ writer.old.count) }
+    ensures few { length steps.now ≤ MAX_STEPS }
 {
     for index in 0..steps.len() {
-        add_step(alloc, framework, kind, sets, &steps[index], atoms, log)?;
+        add_step(alloc, framework, kind, sets, &steps[index], table, writer)?;
     }
     Ok(())
-}
-
-/// The log of a refutation whose steps stand, beside the side clauses of sets. Its steps are the refutation's, in
-/// order: axioms, sides, and derived steps with the hints by which the check takes them. The variables are the atoms of
-/// these by first appearance. `Memory` says that an allocation was refused, or that there are more steps than
-/// [`hinted_log::MAX_STEPS`].
-pub(crate) fn log_of_refutation(
-    alloc: Global,
-    framework: &Framework,
-    kind: SideKind,
-    sets: &[NumSet],
-    steps: &[Step],
-) -> Result<RefutationLog, Memory>
-    requires { AllHold (framework_of framework.now) (sides_of (framework_of framework.now) kind sets.now) steps.now }
-    ensures { IfOk result (λ r. IsLogFor (sides_of (framework_of framework.now) kind sets.now) steps.now
-        r.atoms r.log.steps) }
-{
-    let limit = steps.len() as u64;
-    if limit > MAX_STEPS {
-        return Err(Memory);
-    }
-    let mut log = Log::open(alloc, limit)?;
-    let mut atoms = AtomTable::new(alloc);
-    add_steps(alloc, framework, kind, sets, steps, &mut atoms, &mut log)?;
-    Ok(RefutationLog { log, atoms })
 }

@@ -1,24 +1,25 @@
 //! The steps of a refutation as two texts.
 
-ghost use Rattle.std.specs.Prelude.{◌<◌, length, IfOk};
+ghost use Rattle.std.specs.Prelude.{◌≡◌, ◌<◌, ◌≤◌, ◌+◌, List, length, IfOk};
+ghost use Rattle.std.specs.Bool.{OnTrue};
 ghost use Rattle.edit_rules.specs.Kinds.{framework_of};
 ghost use Rattle.answer_claims.specs.SideClauses.{sides_of};
-ghost use Rattle.plain_lits.specs.Checking.{HaveRoomFor};
-ghost use Rattle.plain_lits.specs.Literals.{LitsRise};
-ghost use Rattle.hinted_log.specs.Logs.{clauses_of};
-ghost use Rattle.lrat_writing.specs.Walks.{last_clause};
+ghost use Rattle.hinted_log.specs.Logs.{Step as LogStep, clauses_of};
+ghost use Rattle.lrat_text.specs.declared.cnf.TheConstants.{MAX_VARIABLE};
+ghost use Rattle.lrat_writing.specs.Writers.{AreTextsOf, IsWriterOf};
 ghost use Rattle.refutation_logs.specs.Logged.{AllHold};
-ghost use Rattle.refutation_logs.specs.Exports.{IsExportOf, IsTextOf};
+ghost use Rattle.refutation_logs.specs.Exports.{IsExportOf};
 
-use crate::steps::log_of_refutation;
+use crate::counts::clause_count;
+use crate::steps::{Table, add_steps, new_table};
 use answer_claims::SideKind;
-use atom_table::AtomTable;
 use certificate_claims::Step;
 use edit_rules::Framework;
-use hinted_log::Log;
+use hinted_log::MAX_STEPS;
 use lists::Memory;
 use lrat_text::MAX_VARIABLE;
-use lrat_writing::{Written, write_refutation};
+use lrat_writing::{Writer, Written};
+use plain_lits::PackedLit;
 use set_lists::NumSet;
 use std::alloc::Global;
 
@@ -40,18 +41,39 @@ impl Drop for Exported {
     }
 }
 
-// Writes a log with the variables of these atoms.
-fn write_log(alloc: Global, atoms: &AtomTable, log: &Log) -> Result<Exported, Memory>
-    requires some { 0 < length log.now.steps }
-    requires room { HaveRoomFor (length atoms.now) (clauses_of log.now.steps) }
-    requires rises { LitsRise (last_clause log.now.steps) }
-    ensures { IfOk result (IsTextOf atoms.now log.now.steps) }
+// Whether the clauses that are given and the literals of the last are as many as was said. They always are: the last
+// clause has as many literals by the variables of these atoms as by those of others.
+fn is_counted(writer: &Writer, last: &[PackedLit]) -> bool
+    requires { writer.now.given < 4294967296 }
+    ensures { OnTrue result (writer.now.given + length last.now ≡ writer.now.count) }
 {
-    let vars = atoms.len();
+    writer.given + last.len() as u64 == writer.count
+}
+
+// The texts of steps that are written, of which the last is at an index.
+fn write_table(
+    alloc: Global,
+    table: &Table,
+    writer: Writer,
+    index: usize,
+) -> Result<Exported, Memory>
+    requires index { index < length table.now.clauses }
+    requires few { writer.given + writer.lines < 4294967296 }
+    requires count { writer.count < 9223372036854775808 }
+    ensures vars { IfOk result (λ e. e.vars ≡ length table.now.atoms) }
+    ensures few { IfOk result (λ e. e.vars ≤ MAX_VARIABLE) }
+    ensures texts { IfOk result (λ e. (logged : List LogStep) → IsWriterOf logged writer
+        → table.now.clauses ≡ clauses_of logged → index + 1 ≡ length logged → AreTextsOf e.vars logged e.written) }
+{
+    let vars = table.atoms.len();
     if vars > MAX_VARIABLE as usize {
         return Err(Memory);
     }
-    let written = write_refutation(alloc, log, vars as u32)?;
+    let last = table.clauses.row(index);
+    if !is_counted(&writer, last) {
+        return Err(Memory);
+    }
+    let written = writer.finish(alloc, vars as u32, last)?;
     Ok(Exported { vars, written })
 }
 
@@ -72,7 +94,14 @@ pub(crate) fn export_steps(
         (sides_of (framework_of framework.now) kind sets.now) steps.now }
     ensures { IfOk result (IsExportOf (sides_of (framework_of framework.now) kind sets.now) steps.now) }
 {
-    let logged = log_of_refutation(alloc, framework, kind, sets, steps)?;
-    let exported = write_log(alloc, &logged.atoms, &logged.log)?;
+    if steps.len() as u64 > MAX_STEPS {
+        return Err(Memory);
+    }
+    let last = steps.len() - 1;
+    let count = clause_count(alloc, framework, kind, sets, steps, &steps[last])?;
+    let mut table = new_table(alloc);
+    let mut writer = Writer::new(alloc, count);
+    add_steps(alloc, framework, kind, sets, steps, &mut table, &mut writer)?;
+    let exported = write_table(alloc, &table, writer, last)?;
     Ok(exported)
 }

@@ -1,4 +1,4 @@
-use Rattle.std.proofs.Common.{◌≡◌, Ok, Err}
+use Rattle.std.proofs.Common.{◌≡◌, Err}
 use Rattle.argue_commands.specs.declared.ended.Status.TheVariants.{ReadFault}
 use Rattle.argue_program.proofs.LratLemmas.{lrat_done, lrat_stopped}
 use Rattle.argue_program.proofs.verifying.lrat.Goals as goal

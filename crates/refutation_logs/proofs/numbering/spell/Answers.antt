@@ -3,7 +3,7 @@ use Rattle.refutation_logs.proofs.Standing.{appeared_next, spelled_next, spelled
 use Rattle.refutation_logs.proofs.numbering.spell.Goals as goal
 
 pub loop-literal-init : goal.loop-literal-init
-loop-literal-init c = record { spelled = spelled_none _ _ c.new-lits.ensures.items; appearance = refl }
+loop-literal-init c = record { spelled = spelled_none _ _ c.clear.ensures.items; appearance = refl }
 
 pub loop-literal-preserved : goal.loop-literal-preserved
 loop-literal-preserved c = record {

@@ -7,7 +7,9 @@ use Rattle.refutation_logs.proofs.steps.add_axiom.Goals as goal
 pub clause_of_axiom-requires : goal.clause_of_axiom-requires
 clause_of_axiom-requires c = axiom_fits (framework_of c.args.framework.now) c.args.name.now c.requires.axiom
 
-pub returns-in-Ok : goal.returns-in-Ok
-returns-in-Ok c =
+pub returns : goal.returns
+returns c =
     axiom_added _ _ _ _ _ _ _ _ _ (c.as_slice.ensures ∙ c.in_ok-given.ensures.table)
-    c.in_ok-clause.ensures.appearance c.in_ok-clause.ensures.stands c.in-Ok.ensures.ok
+    (c.as_slice-packed.ensures.value ∙ c.in_ok-number.ensures.packed) c.in_ok-number.ensures.appearance
+    c.in_ok-number.ensures.stands c.in_ok-push.ensures.ok c.in_ok-push-2.ensures.step c.requires.idle
+    c.in_ok-push-2.ensures.count

@@ -1,19 +1,33 @@
-use Rattle.refutation_logs.proofs.Loggings.{log_rises, log_room, log_some}
+use Rattle.std.proofs.Common.{arith}
+use Rattle.edit_rules.specs.Kinds.{framework_of}
+use Rattle.refutation_logs.proofs.Loggings.{few_written, rows_long, step_there, text_of}
 use Rattle.refutation_logs.proofs.texts.export_steps.Goals as goal
 
-pub write_log-requires-clause-some : goal.write_log-requires-clause-some
-write_log-requires-clause-some c = log_some _ _ _ _ c.requires.some c.in_ok-logged.ensures
+pub clause_count-requires : goal.clause_count-requires
+clause_count-requires c =
+    step_there (framework_of c.args.framework.now) c.args.kind c.args.sets.now c.args.steps.now _ _
+    (let some = c.requires.some in omega (arith, some)) c.index-steps-last.is c.requires.hold
 
-pub write_log-requires-clause-room : goal.write_log-requires-clause-room
-write_log-requires-clause-room c = log_room _ _ _ _ c.in_ok-logged.ensures
+pub write_table-requires-clause-index : goal.write_table-requires-clause-index
+write_table-requires-clause-index c =
+    let long = rows_long _ _ _ _ c.in_ok-add_steps.ensures.logged in
+    let some = c.requires.some in
+    omega (arith, long, some)
 
-pub write_log-requires-clause-rises : goal.write_log-requires-clause-rises
-write_log-requires-clause-rises c = log_rises _ _ _ _ c.requires.some c.in_ok-logged.ensures
+pub write_table-requires-clause-few : goal.write_table-requires-clause-few
+write_table-requires-clause-few c =
+    few_written _ _ _ _ c.in_ok-add_steps.ensures.logged c.in_ok-add_steps.ensures.few
 
 pub returns : goal.returns
-returns c = record {
-  atoms = c.in_ok-logged.logged.atoms;
-  logged = c.in_ok-logged.logged.log.steps;
-  log = c.in_ok-logged.ensures;
-  text = c.in_ok-exported.ensures;
-}
+returns c =
+    let h = c.in_ok-add_steps.ensures.logged in
+    let long = h.log.long in
+    let some = c.requires.some in
+    record {
+      atoms = c.add_steps.new.table.atoms;
+      logged = h.logged;
+      log = h.log;
+      text = text_of _ _ _ _ _ h c.requires.some c.in_ok-add_steps.ensures.few c.in_ok-exported.ensures.vars
+          c.in_ok-exported.ensures.few
+          (c.in_ok-exported.ensures.texts h.logged h.written h.clauses (omega (arith, long, some)));
+    }
