@@ -13,18 +13,18 @@ use Rattle.edit_rules.specs.declared.edit.Edit.{Edit}
 use Rattle.script_text.specs.declared.fault.ScriptCause.{ScriptCause}
 use Rattle.script_text.specs.declared.fault.ScriptFault.{ScriptFault}
 use Rattle.script_text.specs.declared.fault.ScriptFault.TheVariants.{At, Memory}
-use Rattle.script_text.specs.declared.script.ScriptLine.{ScriptLine}
+use Rattle.script_text.specs.declared.text_line.TextLine.{TextLine}
 use Rattle.script_text.specs.ScriptFaults.{rank, IsFaultless, IsFirstFault, IsToldOf, StandsAt, StandsOn}
-use Rattle.script_text.specs.ScriptText.{IsScriptLine}
+use Rattle.script_text.specs.ScriptText.{IsTextLine}
 use Rattle.script_text.specs.Steps.{BreaksAt, IsFirstBadLine}
 use Rattle.script_text.proofs.LineCauses.{line_is_good}
 use Rattle.lists.proofs.Ranges.{number_cases}
 
-abbrev AreLines : List LineText → List ScriptLine → Type 0
-AreLines lines script = AllZip (λ text line. IsScriptLine text.text line) lines script
+abbrev AreLines : List LineText → List TextLine → Type 0
+AreLines lines script = AllZip (λ text line. IsTextLine text.text line) lines script
 
 -- no cause stands at the lines of a script
-member_is_good : (lines : List LineText) (script : List ScriptLine) (at : LineText) (cause : ScriptCause)
+member_is_good : (lines : List LineText) (script : List TextLine) (at : LineText) (cause : ScriptCause)
     → AreLines lines script → Contains lines at → StandsOn (field_texts at.text) cause → ⊥
 member_is_good [] script at cause are c stands = absurd (omega (arith, c.1))
 member_is_good (l ∷ ls) [] at cause are c stands = absurd are
@@ -33,7 +33,7 @@ member_is_good (l ∷ ls) (s ∷ ss) at cause are (zero, within, e) stands =
 member_is_good (l ∷ ls) (s ∷ ss) at cause are (suc k, within, e) stands =
     member_is_good ls ss at cause are.1 (k, omega arith, e) stands
 
-pub script_is_faultless : (bytes : List ℕ) (script : List ScriptLine) → AreLines (kept_lines bytes) script
+pub script_is_faultless : (bytes : List ℕ) (script : List TextLine) → AreLines (kept_lines bytes) script
     → IsFaultless bytes
 script_is_faultless bytes script are = record {
   none = λ line cause at. member_is_good (kept_lines bytes) script at.line cause are at.member at.stands;

@@ -1,4 +1,5 @@
 pub mod Changes
+pub mod Groups
 pub mod ScriptFaults
 pub mod ScriptText
 pub mod Steps
