@@ -306,6 +306,18 @@ class LiveTest(unittest.TestCase):
             ],
         )
 
+    def test_groups_in_names(self):
+        case = Case.from_text(DRUG)
+        script = case.script("1 begin\n1 norule 1\n1 rule unsafe\n1 end\n1 begin\n1 norule 9\n1 end\n")
+        transcript = script.run(case.framework, certify=False)
+        self.assertEqual(
+            [case.told_reply(reply, transcript) for reply in transcript.replies],
+            [
+                ("session 1, at 1: begin; norule 1; rule unsafe; end", "OK rule 4"),
+                ("session 1, at 1: begin; norule 9; end", "REFUSED NoSuchRule 9 edit 1"),
+            ],
+        )
+
     def test_dropped_arguments(self):
         case = Case.from_text(WITNESS)
         transcript = case.script("1 noarg sighting\n1 ask SE-GR").run(case.framework)
