@@ -23,10 +23,10 @@ use Rattle.script_text.proofs.Names.{end_is_no_ask, end_is_no_change, tasks_same
 
 -- ---- fields
 
-first_same : (x y : List ℕ) (xs ys : List (List ℕ)) → x ∷ xs ≡ y ∷ ys → x ≡ y
+pub first_same : (x y : List ℕ) (xs ys : List (List ℕ)) → x ∷ xs ≡ y ∷ ys → x ≡ y
 first_same x y xs ys e = ap (λ fields. get_or fields 0 []) e
 
-others_same : (x y : List ℕ) (xs ys : List (List ℕ)) → x ∷ xs ≡ y ∷ ys → xs ≡ ys
+pub others_same : (x y : List ℕ) (xs ys : List (List ℕ)) → x ∷ xs ≡ y ∷ ys → xs ≡ ys
 others_same x y xs ys e = cc
 
 -- a command that changes the framework isn't `ask`
@@ -46,7 +46,7 @@ pub ask_no_mark : (arguments : List (List ℕ)) → HaveMarkForm (codes "ask" �
 ask_no_mark arguments (inl e) = begin_is_no_ask (first_same (codes "ask") (codes "begin") arguments [] e)
 ask_no_mark arguments (inr e) = end_is_no_ask (first_same (codes "ask") (codes "end") arguments [] e)
 
-marks_no_change : (fields : List (List ℕ)) → HaveMarkForm fields → HaveChangeForm fields → ⊥
+pub marks_no_change : (fields : List (List ℕ)) → HaveMarkForm fields → HaveChangeForm fields → ⊥
 marks_no_change fields mark form =
     change_no_mark form.change form.arguments (subst HaveMarkForm form.fields_are mark)
 

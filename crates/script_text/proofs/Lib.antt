@@ -6,4 +6,5 @@ mod AskedLines
 mod EditLines
 pub mod FirstFaults
 mod LineCauses
+mod GroupCauses
 pub mod OneScript

@@ -48,7 +48,7 @@ above fields session OpenGroup stands = absurd stands
 above fields session GroupTooLong stands = absurd stands
 above fields session EmptyGroup stands = absurd stands
 
-begins : (fields others : List (List ℕ)) (session : ℕ) → TakesSession fields session others → BeginWithSession fields
+pub begins : (fields others : List (List ℕ)) (session : ℕ) → TakesSession fields session others → BeginWithSession fields
 begins fields others session takes = record {
   text = takes.text;
   others = others;
@@ -88,7 +88,7 @@ session_told fields none = record { stands = none; first = λ other stands. lowe
 
 -- ---- a good line
 
-edit_takes : (edit : Edit) (count : ℕ) → count ≡ length (edit_numbers edit) → Takes (change_of edit) count
+pub edit_takes : (edit : Edit) (count : ℕ) → count ≡ length (edit_numbers edit) → Takes (change_of edit) count
 edit_takes (ArgAdd n) count e = e
 edit_takes (ArgDrop n) count e = e
 edit_takes (AttackAdd b a) count e = e

@@ -14,21 +14,16 @@ use Rattle.script_text.specs.declared.text_line.LineCommand.TheVariants.{Ask, Be
 use Rattle.script_text.specs.declared.script.Script.{Script}
 use Rattle.script_text.specs.declared.text_line.TextLine.{TextLine}
 use Rattle.script_text.specs.Changes.{change_name, change_of, edit_numbers}
-use Rattle.script_text.specs.ScriptText.{AreAskFields, AreCommandFields, AreEditFields, IsScript, IsTextLine}
-use Rattle.script_text.specs.ScriptText.{asked_numbers}
+use Rattle.script_text.specs.ScriptText.{AreAskFields, AreCommandFields, AreEditFields, AreTextLines, IsScript}
+use Rattle.script_text.specs.ScriptText.{IsTextLine, asked_numbers}
 use Rattle.script_text.specs.Groups.{commands_of, no_groups}
+use Rattle.script_text.proofs.CommandCauses.{first_same, others_same}
 use Rattle.script_text.proofs.Names.{ask_is_no_change, begin_is_no_ask, begin_is_no_change, begin_is_no_end}
 use Rattle.script_text.proofs.Names.{changes_same, edits_same, end_is_no_ask, end_is_no_change, tasks_same}
 use Rattle.lists.proofs.Zips.{zip_same}
 
 numbers_same : (texts : List (List ℕ)) (ms ns : List ℕ) → AllZip IsNumber texts ms → AllZip IsNumber texts ns → ms ≡ ns
 numbers_same = zip_same IsNumber (λ text m n a b. sym a.value ∙ b.value)
-
-first_same : (x y : List ℕ) (xs ys : List (List ℕ)) → x ∷ xs ≡ y ∷ ys → x ≡ y
-first_same x y xs ys e = ap (λ fields. get_or fields 0 []) e
-
-others_same : (x y : List ℕ) (xs ys : List (List ℕ)) → x ∷ xs ≡ y ∷ ys → xs ≡ ys
-others_same x y xs ys e = cc
 
 edit_same : (fields : List (List ℕ)) (d e : Edit) → AreEditFields fields d → AreEditFields fields e → d ≡ e
 edit_same fields d e a b =
@@ -89,7 +84,7 @@ command_same fields Begin End h k = absurd (begin_is_no_end (first_same _ _ [] [
 command_same fields End Begin h k = absurd (begin_is_no_end (first_same _ _ [] [] (sym k ∙ h)))
 command_same fields End End h k = refl
 
-line_same : (text : List ℕ) (l m : TextLine) → IsTextLine text l → IsTextLine text m → l ≡ m
+pub line_same : (text : List ℕ) (l m : TextLine) → IsTextLine text l → IsTextLine text m → l ≡ m
 line_same text l m a b =
     let both = sym a.fields ∙ b.fields in
     let texts : a.session ≡ b.session = first_same a.session b.session a.others b.others both in
@@ -100,9 +95,11 @@ line_same text l m a b =
     (subst (λ fs. AreCommandFields fs l.command) behind a.command_is) b.command_is in
     λ i. record { session = sessions i; command = commands i }
 
+pub lines_same : (texts : List LineText) (l m : List TextLine) → AreTextLines texts l → AreTextLines texts m → l ≡ m
+lines_same = zip_same (λ text line. IsTextLine text.text line) (λ text l m. line_same text.text l m)
+
 pub script_same : (bytes : List ℕ) (s t : Script) → IsScript bytes s → IsScript bytes t → s ≡ t
 script_same bytes s t a b =
-    let read : a.lines ≡ b.lines = zip_same (λ text line. IsTextLine text.text line)
-    (λ text l m. line_same text.text l m) (kept_lines bytes) a.lines b.lines a.are_lines b.are_lines in
+    let read : a.lines ≡ b.lines = lines_same (kept_lines bytes) a.lines b.lines a.are_lines b.are_lines in
     let lines : s.lines ≡ t.lines = a.commands ∙ (ap (commands_of no_groups) read ∙ sym b.commands) in
     λ i. record { lines = lines i }

@@ -18,6 +18,10 @@ Groups = ℕ → Option (List Edit)
 abbrev pub no_groups : Groups
 no_groups s = None
 
+abbrev pub is_open : Option (List Edit) → Bool
+is_open None = false
+is_open (Some edits) = true
+
 -- what a line leaves of its session's group
 abbrev pub left_open : LineCommand → Option (List Edit) → Option (List Edit)
 left_open (change_by edit) None = None
@@ -27,7 +31,7 @@ left_open Begin group = Some []
 left_open End group = None
 
 abbrev pub after_line : TextLine → Groups → Groups
-after_line line groups s = if s == line.session then left_open line.command (groups s) else groups s
+after_line line groups s = if s == line.session then left_open line.command (groups line.session) else groups s
 
 abbrev pub after_lines : List TextLine → Groups → Groups
 after_lines [] groups = groups

@@ -1,7 +1,6 @@
 -- The faults of a script's text: which cause stands at which line, and which is told.
 use Rattle.std.specs.Prelude.{◌≡◌, ℕ, ◌+◌, ◌<◌, ◌≤◌, ◌⊎◌, List, [], ◌∷◌, ◌++◌, length, Contains, codes}
-use Rattle.std.specs.Prelude.{Option, Some, None}
-use Rattle.std.specs.List.{AllZip}
+use Rattle.std.specs.Prelude.{Bool, true, false, Option, Some, None}
 use Rattle.num_text.specs.Cuts.{LineText, field_texts, lines_of}
 use Rattle.num_text.specs.Lines.{kept_lines}
 use Rattle.num_text.specs.Number.{IsNumber}
@@ -20,8 +19,8 @@ use Rattle.script_text.specs.declared.fault.ScriptFault.{ScriptFault}
 use Rattle.script_text.specs.declared.fault.ScriptFault.TheVariants.{At, Memory}
 use Rattle.script_text.specs.Changes.{change_name, Takes}
 use Rattle.script_text.specs.declared.text_line.TextLine.{TextLine}
-use Rattle.script_text.specs.Groups.{after_lines, no_groups}
-use Rattle.script_text.specs.ScriptText.{IsTextLine, SpellsSession}
+use Rattle.script_text.specs.Groups.{Groups, after_lines, is_open, no_groups}
+use Rattle.script_text.specs.ScriptText.{AreTextLines, SpellsSession}
 
 -- the name of a cause
 abbrev pub cause_name : ScriptCause → List ℕ
@@ -125,14 +124,17 @@ StandsOn fields cause = StandsOnCommand (behind_first fields) cause
 
 -- ---- groups
 
--- the fields begin with the word
-abbrev pub BeginWith : List ℕ → List (List ℕ) → Type 0
-BeginWith word fields = (more : List (List ℕ)) × (fields ≡ word ∷ more)
+-- the name of a command that may not stand inside a group, or of one that may not stand outside
+abbrev pub IsMisplacedName : Bool → List ℕ → Type 0
+IsMisplacedName true name = (name ≡ codes "ask") ⊎ (name ≡ codes "begin")
+IsMisplacedName false name = name ≡ codes "end"
 
--- `end` outside a group, or `ask` or `begin` inside one
-abbrev pub IsMisplaced : Option (List Edit) → List (List ℕ) → Type 0
-IsMisplaced None fields = BeginWith (codes "end") fields
-IsMisplaced (Some edits) fields = BeginWith (codes "ask") fields ⊎ BeginWith (codes "begin") fields
+-- the fields begin with a name that may not stand where this group is open, or none
+pub record IsMisplaced (group : Option (List Edit)) (fields : List (List ℕ)) : Type 0 where
+  pub name : List ℕ
+  pub others : List (List ℕ)
+  pub fields_are : fields ≡ name ∷ others
+  pub misplaced : IsMisplacedName (is_open group) name
 
 -- an edit more than a group may have
 abbrev pub IsTooMany : Option (List Edit) → List (List ℕ) → Type 0
@@ -150,35 +152,36 @@ StandsInGroup group fields OpenGroup = ⊥
 StandsInGroup group fields GroupTooLong = IsTooMany group fields
 StandsInGroup group fields EmptyGroup = (fields ≡ codes "end" ∷ []) × (group ≡ Some [])
 
+-- the cause stands on the fields of a line by the group that the line's session has open
+pub record StandsByGroup (groups : Groups) (fields : List (List ℕ)) (cause : ScriptCause) : Type 0 where
+  pub session : ℕ
+  pub text : List ℕ
+  pub others : List (List ℕ)
+  pub fields_are : fields ≡ text ∷ others
+  pub session_is : SpellsSession text session
+  pub stands : StandsInGroup (groups session) others cause
+
+-- the cause stands on the fields of a line by a group that the lines before it leave open
+pub record StandsBehind (before : List LineText) (fields : List (List ℕ)) (cause : ScriptCause) : Type 0 where
+  pub read : List TextLine
+  pub are_lines : AreTextLines before read
+  pub stands : StandsByGroup (after_lines read no_groups) fields cause
+
 -- ---- the text
 
--- the cause stands at one of the lines by its fields, the line of this number
+-- the cause stands at one of the lines, the line of this number
 pub record StandsAt (lines : List LineText) (number : ℕ) (cause : ScriptCause) : Type 0 where
-  pub line : LineText
-  pub member : Contains lines line
-  pub number_is : number ≡ line.number
-  pub stands : StandsOn (field_texts line.text) cause
-
--- it stands at a line by the group that the lines before it leave open
-pub record StandsBehind (lines : List LineText) (number : ℕ) (cause : ScriptCause) : Type 0 where
   pub before : List LineText
   pub line : LineText
   pub behind : List LineText
   pub lines_are : lines ≡ before ++ line ∷ behind
   pub number_is : number ≡ line.number
-  pub read : List TextLine
-  pub are_lines : AllZip (λ text line. IsTextLine text.text line) before read
-  pub session : ℕ
-  pub text : List ℕ
-  pub others : List (List ℕ)
-  pub fields_are : field_texts line.text ≡ text ∷ others
-  pub session_is : SpellsSession text session
-  pub stands : StandsInGroup (after_lines read no_groups session) others cause
+  pub stands : StandsOn (field_texts line.text) cause ⊎ StandsBehind before (field_texts line.text) cause
 
 -- a group is open behind the last line; this is told at the number of all lines and one more
 pub record IsLeftOpen (bytes : List ℕ) (number : ℕ) : Type 0 where
   pub read : List TextLine
-  pub are_lines : AllZip (λ text line. IsTextLine text.text line) (kept_lines bytes) read
+  pub are_lines : AreTextLines (kept_lines bytes) read
   pub session : ℕ
   pub edits : List Edit
   pub left : after_lines read no_groups session ≡ Some edits
@@ -187,8 +190,7 @@ pub record IsLeftOpen (bytes : List ℕ) (number : ℕ) : Type 0 where
 -- the cause stands at the line of the bytes
 abbrev pub Stands : List ℕ → ℕ → ScriptCause → Type 0
 Stands bytes number cause =
-    StandsAt (kept_lines bytes) number cause
-    ⊎ (StandsBehind (kept_lines bytes) number cause ⊎ ((cause ≡ OpenGroup) × IsLeftOpen bytes number))
+    StandsAt (kept_lines bytes) number cause ⊎ ((cause ≡ OpenGroup) × IsLeftOpen bytes number)
 
 -- the cause stands at the line of the bytes, every other one at a later line or behind it in the order
 pub record IsFirstFault (bytes : List ℕ) (number : ℕ) (cause : ScriptCause) : Type 0 where

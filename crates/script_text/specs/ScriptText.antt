@@ -54,11 +54,14 @@ pub record IsTextLine (text : List ℕ) (line : TextLine) : Type 0 where
   pub session_is : SpellsSession session line.session
   pub command_is : AreCommandFields others line.command
 
+abbrev pub AreTextLines : List LineText → List TextLine → Type 0
+AreTextLines texts lines = AllZip (λ text line. IsTextLine text.text line) texts lines
+
 -- but for skipped lines, the bytes are lines of which each fits the group of its session, and none is open at the end;
 -- and the script is their commands
 pub record IsScript (bytes : List ℕ) (script : Script) : Type 0 where
   pub lines : List TextLine
-  pub are_lines : AllZip (λ text line. IsTextLine text.text line) (kept_lines bytes) lines
+  pub are_lines : AreTextLines (kept_lines bytes) lines
   pub fit : FitGroups no_groups lines
   pub closed : (s : ℕ) → after_lines lines no_groups s ≡ None
   pub commands : script.lines ≡ commands_of no_groups lines

@@ -1,20 +1,23 @@
 -- How reading goes on from field to field and from line to line.
-use Rattle.std.specs.Prelude.{◌≡◌, ◌⊎◌, ℕ, List, [], ◌∷◌, ◌++◌, Option, Some, None, get_or}
-use Rattle.std.specs.List.{AllZip}
+use Rattle.std.specs.Prelude.{◌≡◌, ◌⊎◌, ℕ, ◌≤◌, List, [], ◌∷◌, ◌++◌, Option, Some, None, length}
 use Rattle.num_text.specs.Cuts.{LineText, field_texts}
+use Rattle.edit_rules.specs.declared.edit.Edit.{Edit}
+use Rattle.edit_rules.specs.declared.edit.TheConstants.{MAX_GROUP}
 use Rattle.script_text.specs.declared.fault.LineStop.{LineStop}
 use Rattle.script_text.specs.declared.fault.LineStop.TheVariants.{Wrong, Memory}
 use Rattle.script_text.specs.declared.fault.ScriptCause.{ScriptCause}
+use Rattle.script_text.specs.declared.fault.ScriptCause.TheVariants.{BadCommand, EmptyGroup, GroupTooLong}
 use Rattle.script_text.specs.declared.fault.ScriptFault.{ScriptFault}
 use Rattle.script_text.specs.declared.fault.ScriptFault.TheVariants.{At, Memory as Refused}
-use Rattle.script_text.specs.declared.text_line.TextLine.{TextLine}
-use Rattle.edit_rules.specs.declared.edit.Edit.{Edit}
 use Rattle.script_text.specs.declared.groups.OpenGroups.{OpenGroups}
 use Rattle.script_text.specs.declared.script.ScriptLine.{ScriptLine}
+use Rattle.script_text.specs.declared.text_line.LineCommand.{LineCommand}
+use Rattle.script_text.specs.declared.text_line.LineCommand.TheVariants.{Ask, Begin, Edit as change_by, End}
+use Rattle.script_text.specs.declared.text_line.TextLine.{TextLine}
 use Rattle.script_text.specs.Groups.{FitGroups, FitsGroup, Groups, after_lines, commands_of, no_groups}
-use Rattle.script_text.specs.declared.fault.ScriptCause.TheVariants.{BadCommand}
-use Rattle.script_text.specs.ScriptFaults.{IsFirstCause, StandsInGroup, StandsOn}
-use Rattle.script_text.specs.ScriptText.{IsTextLine, SpellsSession}
+use Rattle.script_text.specs.ScriptFaults.{IsFirstCause, StandsByGroup, StandsOn}
+use Rattle.script_text.specs.ScriptText.{AreTextLines, IsTextLine, SpellsSession}
+use Rattle.script_text.specs.Sizes.{group_at}
 
 -- where the line is wrong, its cause is one of which P holds
 abbrev pub IfWrong : LineStop → (ScriptCause → Type 0) → Type 0
@@ -35,30 +38,34 @@ pub record TellsNext (before after : List LineText) (told : TextLine) : Type 0 w
 
 -- ---- groups
 
--- the group at an index, and none where there is no index
-abbrev pub group_at : List (Option (List Edit)) → ℕ → Option (List Edit)
-group_at groups s = get_or groups s None
-
 abbrev pub groups_of : OpenGroups → Groups
 groups_of open_groups s = group_at open_groups.groups.items s
 
--- the command that is told, as a list
-abbrev pub told_list : Option ScriptLine → List ScriptLine
-told_list None = []
-told_list (Some line) = line ∷ []
+-- how many edits the group has, where one is open
+abbrev pub edit_count : Option (List Edit) → Option ℕ
+edit_count None = None
+edit_count (Some edits) = Some (length edits)
+
+-- a line, by its parts
+abbrev pub line_by : ℕ → LineCommand → TextLine
+line_by session command = record { session = session; command = command }
 
 -- the line may stand where these groups are open
 abbrev pub FitsIn : Groups → TextLine → Type 0
 FitsIn groups line = FitsGroup line.command (groups line.session)
 
--- the cause stands on a line's fields by the group that its session has open
-pub record StandsByGroup (groups : Groups) (fields : List (List ℕ)) (cause : ScriptCause) : Type 0 where
-  pub session : ℕ
-  pub text : List ℕ
-  pub others : List (List ℕ)
-  pub fields_are : fields ≡ text ∷ others
-  pub session_is : SpellsSession text session
-  pub stands : StandsInGroup (groups session) others cause
+-- the cause is that of a line behind so many edits of a group
+abbrev pub BreaksLimit : LineCommand → ℕ → ScriptCause → Type 0
+BreaksLimit (change_by edit) count cause = (MAX_GROUP ≤ count) × (cause ≡ GroupTooLong)
+BreaksLimit (Ask asked) count cause = ⊥
+BreaksLimit Begin count cause = ⊥
+BreaksLimit End count cause = (count ≡ 0) × (cause ≡ EmptyGroup)
+
+-- the cause is that of a line by the number of edits of its session's group
+pub record BreaksIn (groups : Groups) (line : TextLine) (cause : ScriptCause) : Type 0 where
+  pub edits : List Edit
+  pub opened : groups line.session ≡ Some edits
+  pub breaks : BreaksLimit line.command (length edits) cause
 
 abbrev pub IsMisplacedIn : Groups → List (List ℕ) → Type 0
 IsMisplacedIn groups fields = StandsByGroup groups fields BadCommand
@@ -85,20 +92,24 @@ StopsAt groups lines Refused = Unit {0}
 -- the lines are these, of which each may stand where it does, and these commands; they leave these groups open
 pub record AreRead (lines : List LineText) (groups : Groups) (script : List ScriptLine) : Type 0 where
   pub read : List TextLine
-  pub are_lines : AllZip (λ text line. IsTextLine text.text line) lines read
+  pub are_lines : AreTextLines lines read
   pub fit : FitGroups no_groups read
   pub groups_are : groups ≡ after_lines read no_groups
   pub commands : script ≡ commands_of no_groups read
 
+-- the lines are some that were read, with what they left, and those that are left to read
+pub record HasRead (lines left : List LineText) (groups : Groups) (script : List ScriptLine) : Type 0 where
+  pub before : List LineText
+  pub lines_are : lines ≡ before ++ left
+  pub are_read : AreRead before groups script
+
 -- the first line that may not stand where it does has this number, and the cause is told of it
 pub record IsFirstBadLine (lines : List LineText) (number : ℕ) (cause : ScriptCause) : Type 0 where
-  pub before : List LineText
   pub left : List LineText
-  pub lines_are : lines ≡ before ++ left
-  pub read : List TextLine
-  pub before_are : AllZip (λ text line. IsTextLine text.text line) before read
-  pub fit : FitGroups no_groups read
-  pub bad : IsNextFault (after_lines read no_groups) left number cause
+  pub groups : Groups
+  pub script : List ScriptLine
+  pub has_read : HasRead lines left groups script
+  pub bad : IsNextFault groups left number cause
 
 -- where the fault is that of a line, it is that of the first bad one
 abbrev pub BreaksAt : List LineText → ScriptFault → Type 0

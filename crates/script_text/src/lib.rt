@@ -21,4 +21,4 @@ mod text_line;
 pub use edit_word::EditWord;
 pub use fault::{ScriptCause, ScriptFault};
 pub use read::read_script;
-pub use script::{MAX_SESSIONS, Script, ScriptCommand, ScriptLine};
+pub use script::{Group, MAX_SESSIONS, Script, ScriptCommand, ScriptLine};

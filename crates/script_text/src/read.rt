@@ -1,24 +1,25 @@
 //! Reading a script.
 
-ghost use Rattle.std.specs.Prelude.{◌≡◌, ℕ, [], ◌∷◌, List, IfOk, IfErr, IfSome, IfNone, OnOk};
-ghost use Rattle.num_text.specs.Cuts.{field_texts};
+ghost use Rattle.std.specs.Prelude.{◌≡◌, ◌↔◌, ◌≤◌, ◌+◌, [], length, IfOk, IfErr, IfSome, IfNone, OnOk, IsTrue};
+ghost use Rattle.num_text.specs.Cuts.{field_texts, lines_of};
 ghost use Rattle.num_text.specs.Lines.{kept};
+ghost use Rattle.script_text.specs.declared.fault.ScriptCause.{ScriptCause as ACause};
 ghost use Rattle.script_text.specs.declared.script.Script.{Script as ScriptValue};
-ghost use Rattle.script_text.specs.Groups.{FitsGroup, no_groups};
-ghost use Rattle.script_text.specs.ScriptFaults.{IsFaultless, IsToldOf, StandsOn};
+ghost use Rattle.script_text.specs.Groups.{no_groups};
+ghost use Rattle.script_text.specs.ScriptFaults.{IsFaultless, IsMisplacedName, IsToldOf};
 ghost use Rattle.script_text.specs.ScriptText.{IsScript, IsTextLine};
-ghost use Rattle.script_text.specs.Steps.{AreRead, BreaksAt, FitsIn, IfWrong, IsFirstIn, IsMisplacedIn, StopsAt};
-ghost use Rattle.script_text.specs.Steps.{TellsNext, groups_of};
+ghost use Rattle.script_text.specs.Steps.{AreRead, BreaksAt, BreaksIn, BreaksLimit, FitsIn, IfWrong, IsFirstIn};
+ghost use Rattle.script_text.specs.Steps.{IsMisplacedIn, StopsAt, TellsNext, groups_of};
 
 use crate::arguments::next_text;
 use crate::fault::{LineStop, ScriptCause, ScriptFault};
 use crate::groups::OpenGroups;
-use crate::script::{Script, ScriptLine};
+use crate::script::{MAX_SESSIONS, Script, ScriptLine};
 use crate::script_line::{line_of, session_of};
 use crate::text_line::{LineCommand, TextLine};
 use edit_rules::MAX_GROUP;
 use lists::Items;
-use num_text::{Line, Lines, fields, line_count, lines, next_kept};
+use num_text::{Line, Lines, fields, lines, next_kept};
 use std::alloc::Global;
 
 /// The script that the bytes spell.
@@ -33,14 +34,26 @@ pub fn read_script(alloc: Global, bytes: &[u8]) -> Result<Script, ScriptFault>
     ensures fault { IfErr result (IsToldOf bytes.now) }
 {
     let mut groups = OpenGroups::new(alloc)?;
-    let lines = read_lines(alloc, lines(bytes), &mut groups)?;
+    let script = read_lines(alloc, lines(bytes), &mut groups)?;
     if groups.is_any_open() {
         return Err(ScriptFault::At {
-            line: line_count(bytes) + 1,
+            line: number_behind(bytes),
             cause: ScriptCause::OpenGroup,
         });
     }
-    Ok(Script { lines })
+    Ok(Script { lines: script })
+}
+
+// The number that a line behind the last would have.
+fn number_behind(bytes: &[u8]) -> usize
+    ensures { result ≡ length (lines_of bytes.now) + 1 }
+{
+    let mut left = lines(bytes);
+    let mut number = 1;
+    while let Some(_line) = left.next() {
+        number += 1;
+    }
+    number
 }
 
 // The commands of all lines that are left and not skipped, in their order.
@@ -55,9 +68,7 @@ fn read_lines(
 {
     let mut script = Items::new(alloc);
     while let Some(line) = next_line(alloc, &mut left, groups)? {
-        if let Some(told) = groups.take(alloc, line)? {
-            script.push(told)?;
-        }
+        groups.take(alloc, line, &mut script)?;
     }
     Ok(script)
 }
@@ -95,13 +106,13 @@ fn line_in(alloc: Global, line: &Line<'_>, groups: &OpenGroups) -> Result<TextLi
 {
     check_place(line, groups)?;
     let told = line_of(alloc, line)?;
-    check_group(&told, groups)?;
+    check_limits(&told, groups)?;
     Ok(told)
 }
 
 // Refuses `end` outside a group, and `ask` or `begin` inside one.
 fn check_place(line: &Line<'_>, groups: &OpenGroups) -> Result<(), ScriptCause>
-    ensures placed { OnOk result (IsMisplacedIn (groups_of groups.now) (field_texts line.now.text.now) → ⊥) }
+    ensures placed { OnOk result (¬ IsMisplacedIn (groups_of groups.now) (field_texts line.now.text.now)) }
     ensures wrong { IfErr result (λ cause. (cause ≡ ScriptCause.BadCommand)
         × IsMisplacedIn (groups_of groups.now) (field_texts line.now.text.now)) }
 {
@@ -112,26 +123,40 @@ fn check_place(line: &Line<'_>, groups: &OpenGroups) -> Result<(), ScriptCause>
     let Some(name) = next_text(&mut parts) else {
         return Ok(());
     };
-    check_word(name, groups.count(session).is_some())
-}
-
-// Refuses a command's name that may not stand inside a group, or not outside one.
-fn check_word(name: &[u8], is_open: bool) -> Result<(), ScriptCause> {
-    if !is_open && name == "end".as_bytes() {
-        return Err(ScriptCause::BadCommand);
-    }
-    if is_open && (name == "ask".as_bytes() || name == "begin".as_bytes()) {
+    if is_misplaced(name, groups.is_open(session)) {
         return Err(ScriptCause::BadCommand);
     }
     Ok(())
 }
 
+// Whether a command of that name may not stand inside a group, or not outside one.
+fn is_misplaced(name: &[u8], is_open: bool) -> bool
+    ensures { IsTrue result ↔ IsMisplacedName is_open name.now }
+{
+    match is_open {
+        true => name == "ask".as_bytes() || name == "begin".as_bytes(),
+        false => name == "end".as_bytes(),
+    }
+}
+
 // Refuses an edit too many, and the end of a group without edits.
-fn check_group(told: &TextLine, groups: &OpenGroups) -> Result<(), ScriptCause> {
-    let Some(count) = groups.count(told.session) else {
-        return Ok(());
-    };
-    match told.command {
+fn check_limits(told: &TextLine, groups: &OpenGroups) -> Result<(), ScriptCause>
+    requires { told.now.session ≤ MAX_SESSIONS }
+    ensures fits { OnOk result ((cause : ACause) → ¬ BreaksIn (groups_of groups.now) told.now cause) }
+    ensures wrong { IfErr result (BreaksIn (groups_of groups.now) told.now) }
+{
+    match groups.count(told.session) {
+        Some(count) => check_limit(&told.command, count),
+        None => Ok(()),
+    }
+}
+
+// Refuses an edit behind the most edits, and an end behind none.
+fn check_limit(command: &LineCommand, count: usize) -> Result<(), ScriptCause>
+    ensures fits { OnOk result ((cause : ACause) → ¬ BreaksLimit command.now count cause) }
+    ensures wrong { IfErr result (BreaksLimit command.now count) }
+{
+    match command {
         LineCommand::Edit(_) if count >= MAX_GROUP => Err(ScriptCause::GroupTooLong),
         LineCommand::End if count == 0 => Err(ScriptCause::EmptyGroup),
         _ => Ok(()),

@@ -1,18 +1,57 @@
 //! Scripts as values.
 
+ghost use Rattle.std.specs.Prelude.{◌≡◌};
+ghost use Rattle.script_text.specs.Sizes.{HasGroupSize};
+
 use edit_rules::Edit;
 use iccma_tasks::Query;
 use lists::Items;
+use std::marker::Model;
 
 /// The most sessions that a script may have: they are numbered from 1 to this.
 pub const MAX_SESSIONS: u32 = 8;
+
+/// Edits that are made at one time, from 1 to [`MAX_GROUP`](edit_rules::MAX_GROUP) of them. It means their list.
+#[derive(Drop)]
+pub struct Group {
+    edits: Items<Edit>,
+}
+
+impl Model for Group {
+    ghost use Rattle.std.specs.Prelude.{List};
+    ghost use Rattle.edit_rules.specs.declared.edit.Edit.{Edit as AnEdit};
+
+    ghost Value = { List AnEdit };
+
+    ghost view = { λ g. g.edits };
+
+    ghost invariant = { λ g. HasGroupSize g.edits };
+}
+
+impl Group {
+    /// The group of these edits.
+    pub fn new(edits: Items<Edit>) -> Group
+        requires { HasGroupSize edits }
+        ensures { result ≡ edits }
+    {
+        Group { edits }
+    }
+
+    /// The edits.
+    pub fn as_slice(&self) -> &[Edit]
+        ensures edits { result.now ≡ self.now }
+        ensures size { HasGroupSize result.now }
+    {
+        self.edits.as_slice()
+    }
+}
 
 /// What a script has a session do at one time.
 #[derive(Drop)]
 pub enum ScriptCommand {
     /// Change the framework by these edits, all or none. `true` says that they are written between `begin` and `end`;
     /// without them there is one edit.
-    Edit(Items<Edit>, bool),
+    Edit(Group, bool),
     /// Ask about the framework as it then is.
     Ask(Query),
 }

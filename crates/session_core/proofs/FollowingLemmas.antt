@@ -128,7 +128,7 @@ edits_around (suc n) (c ∷ changes) d within =
     (edits_in (get_or changes n d).effects ++ edits_of (drop (suc n) (entries_in changes))))
 
 -- the framework after one group more
-next_group : (f : Framework) (n : ℕ) (changes : List Change) (d : Change) → n < length changes
+pub next_group : (f : Framework) (n : ℕ) (changes : List Change) (d : Change) → n < length changes
     → framework_after f (take (suc n) (entries_in changes))
     ≡ replay (framework_after f (take n (entries_in changes))) (edits_in (get_or changes n d).effects)
 next_group f n [] d within = absurd (omega arith)

@@ -83,8 +83,9 @@ impl Session {
         self.commit(rt, alloc, hub, edits.as_slice(), true)
     }
 
-    /// Commits a group of edits at one turn, written as a group or as one edit without.
-    fn commit<R: Wait>(
+    /// Commits edits at one turn, as [`edit_group`](Session::edit_group) does where they are written as a group, and as
+    /// [`edit`](Session::edit) does where one is written without. The list stays the caller's.
+    pub fn commit<R: Wait>(
         &mut self,
         rt: &R,
         alloc: Global,

@@ -1,9 +1,9 @@
 //! The text of a history.
 
 ghost use Rattle.std.specs.Prelude.{◌≡◌, ◌++◌, IfOk, OnOk};
+ghost use Rattle.std.specs.List.{flat_map};
 ghost use Rattle.std.specs.String.{string_bytes};
 ghost use Rattle.edit_rules.specs.AbaEdits.{in_order};
-ghost use Rattle.std.specs.List.{flat_map};
 ghost use Rattle.session_replies.specs.Replies.{command_line, edit_line, edit_text, history_lines, history_of};
 ghost use Rattle.session_replies.specs.Replies.{rule_text, spaced};
 
@@ -16,7 +16,7 @@ use std::fmt::Write;
 
 /// The text of a history: the line `history`, and a line for each edit in order. It is the number of the session and
 /// the command that makes the edit, with single blanks and without leading zeros; the body of a rule is in rising
-/// order, each atom once. The edits of a larger group than one stand between the lines `S begin` and `S end`.
+/// order, each atom once. A group of more edits than one stands between the lines `S begin` and `S end`.
 pub fn history_text(alloc: Global, changes: &[Change]) -> Result<Bytes, Memory>
     ensures { IfOk result (λ text. text ≡ history_of changes.now) }
 {

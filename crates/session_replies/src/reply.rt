@@ -2,8 +2,8 @@
 
 ghost use Rattle.std.specs.Prelude.{◌≡◌, ◌++◌, IfOk, OnOk};
 ghost use Rattle.std.specs.String.{string_bytes};
-ghost use Rattle.iccma_tasks.specs.WrittenText.{text_of};
 ghost use Rattle.std.specs.List.{flat_map};
+ghost use Rattle.iccma_tasks.specs.WrittenText.{text_of};
 ghost use Rattle.session_replies.specs.Replies.{body_text, edit_refusal_line, front_line, place_words, refusal_line};
 ghost use Rattle.session_replies.specs.Replies.{refusal_words, reply_text, rule_told, rule_words, taken_line};
 
@@ -24,7 +24,6 @@ pub struct Reply {
 }
 
 /// What a reply says of edits or a query.
-
 pub enum Body {
     /// The group of edits is taken, and did this, edit by edit.
     Done(Items<Effect>),
