@@ -109,17 +109,17 @@ places (a ∷ xs) (b ∷ ys) x y us vs e =
     let heads = first_line_same a b (xs ++ x ∷ us) (ys ++ y ∷ vs) e in
     elim (places xs ys x y us vs (other_lines_same a b (xs ++ x ∷ us) (ys ++ y ∷ vs) e)) [
       | inl p ↦ inl (record {
-          between = p.between;
-          list_is = ap (λ l. l ∷ ys) (sym heads) ∙ ap (λ ls. a ∷ ls) p.list_is;
-        })
+        between = p.between;
+        list_is = ap (λ l. l ∷ ys) (sym heads) ∙ ap (λ ls. a ∷ ls) p.list_is;
+      })
       | inr (inl p) ↦ inr (inl (record {
-          lists = ap (λ l. l ∷ xs) heads ∙ ap (λ ls. b ∷ ls) p.lists;
-          lines = p.lines;
-        }))
+        lists = ap (λ l. l ∷ xs) heads ∙ ap (λ ls. b ∷ ls) p.lists;
+        lines = p.lines;
+      }))
       | inr (inr p) ↦ inr (inr (record {
-          between = p.between;
-          list_is = ap (λ l. l ∷ xs) heads ∙ ap (λ ls. b ∷ ls) p.list_is;
-        }))
+        between = p.between;
+        list_is = ap (λ l. l ∷ xs) heads ∙ ap (λ ls. b ∷ ls) p.list_is;
+      }))
     ]
 
 -- a line behind another has a higher number
@@ -188,26 +188,26 @@ bad_line_told bytes number cause b =
         stands = elim b.bad.told.stands [
           | inl on ↦ inl on
           | inr by ↦ inr (record {
-              read = r.read;
-              are_lines = r.are_lines;
-              stands = subst (λ g. StandsByGroup g (field_texts line.text) cause) r.groups_are by;
-            })
+            read = r.read;
+            are_lines = r.are_lines;
+            stands = subst (λ g. StandsByGroup g (field_texts line.text) cause) r.groups_are by;
+          })
         ];
       });
       first = λ l c stands. elim stands [
         | inl at ↦ elim (places at.before before at.line line at.behind others (sym at.lines_are ∙ whole)) [
           | inl p ↦ absurd (none_stands before r.read l c r.are_lines r.fit (record {
-              before = at.before;
-              line = at.line;
-              behind = p.between;
-              lines_are = p.list_is;
-              number_is = at.number_is;
-              stands = at.stands;
-            }))
+            before = at.before;
+            line = at.line;
+            behind = p.between;
+            lines_are = p.list_is;
+            number_is = at.number_is;
+            stands = at.stands;
+          }))
           | inr (inl p) ↦ inr (
-              b.bad.number_is ∙ sym (ap (λ x. x.number) p.lines) ∙ sym at.number_is,
-              b.bad.told.first c (stands_here b.groups b.script before at.before at.line line c r p at.stands),
-            )
+            b.bad.number_is ∙ sym (ap (λ x. x.number) p.lines) ∙ sym at.number_is,
+            b.bad.told.first c (stands_here b.groups b.script before at.before at.line line c r p at.stands),
+          )
           | inr (inr p) ↦
               let higher = numbers_differ lines before others at.before at.behind line at.line (kept_lines-rise bytes)
               whole at.lines_are p in
@@ -222,6 +222,7 @@ bad_line_told bytes number cause b =
             inl (omega (arith, within, low, high))
       ];
     }
+
 pub breaks_told : (bytes : List ℕ) (fault : ScriptFault) → BreaksAt (kept_lines bytes) fault → IsToldOf bytes fault
 breaks_told bytes (At number cause) b = bad_line_told bytes number cause b
 breaks_told bytes Memory b = tt
@@ -232,20 +233,23 @@ pub open_told : (bytes : List ℕ) (groups : Groups) (script : List ScriptLine) 
     (number : ℕ) → AreRead (kept_lines bytes) groups script → groups session ≡ Some edits
     → number ≡ length (lines_of bytes) + 1 → IsFirstFault bytes number OpenGroup
 open_told bytes groups script session edits number r opened number_is = record {
-  stands = inr (refl, record {
-    read = r.read;
-    are_lines = r.are_lines;
-    session = session;
-    edits = edits;
-    left = ap (λ g. g session) (sym r.groups_are) ∙ opened;
-    number_is = number_is;
-  });
+  stands = inr (
+    refl,
+    record {
+      read = r.read;
+      are_lines = r.are_lines;
+      session = session;
+      edits = edits;
+      left = ap (λ g. g session) (sym r.groups_are) ∙ opened;
+      number_is = number_is;
+    },
+  );
   first = λ l c stands. elim stands [
     | inl at ↦ absurd (none_stands (kept_lines bytes) r.read l c r.are_lines r.fit at)
     | inr last ↦ inr (
-        number_is ∙ sym last.1.number_is,
-        subst (λ cause. rank OpenGroup ≤ rank cause) (sym last.0) (omega arith),
-      )
+      number_is ∙ sym last.1.number_is,
+      subst (λ cause. rank OpenGroup ≤ rank cause) (sym last.0) (omega arith),
+    )
   ];
 }
 

@@ -9,7 +9,7 @@ use Rattle.script_text.specs.declared.fault.ScriptCause.{ScriptCause}
 use Rattle.script_text.specs.declared.fault.ScriptCause.TheVariants.{BadCommand, EmptyGroup, GroupTooLong}
 use Rattle.script_text.specs.declared.fault.ScriptFault.{ScriptFault}
 use Rattle.script_text.specs.declared.fault.ScriptFault.TheVariants.{At, Memory as Refused}
-use Rattle.script_text.specs.declared.groups.OpenGroups.{OpenGroups}
+use Rattle.script_text.specs.declared.open_groups.OpenGroups.{OpenGroups}
 use Rattle.script_text.specs.declared.script.ScriptLine.{ScriptLine}
 use Rattle.script_text.specs.declared.text_line.LineCommand.{LineCommand}
 use Rattle.script_text.specs.declared.text_line.LineCommand.TheVariants.{Ask, Begin, Edit as change_by, End}

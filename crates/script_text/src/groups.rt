@@ -1,4 +1,4 @@
-//! The groups of edits that the sessions of a script have open.
+//! How lines open, fill and end the groups of edits of a script.
 
 ghost use Rattle.std.specs.Prelude.{◌≡◌, ◌↔◌, ◌<◌, ◌≤◌, ◌+◌, ◌==◌, ◌++◌, ◌∷◌, [], ℕ, List, Some, None, IfOk, OnOk, IsTrue};
 ghost use Rattle.std.specs.Prelude.{if◌then◌else◌, length};
@@ -9,25 +9,13 @@ ghost use Rattle.script_text.specs.Groups.{after_line, is_open, no_groups, told_
 ghost use Rattle.script_text.specs.Sizes.{AreSmall, group_at};
 ghost use Rattle.script_text.specs.Steps.{FitsIn, edit_count, groups_of, line_by};
 
+use crate::open_groups::OpenGroups;
 use crate::script::{Group, MAX_SESSIONS, ScriptCommand, ScriptLine};
 use crate::text_line::{LineCommand, TextLine};
 use edit_rules::Edit;
 use lists::{Items, Memory};
 use std::alloc::Global;
 use std::mem::replace;
-
-/// The edits so far of each session's open group, by the session's number. No session has number 0.
-pub(crate) struct OpenGroups {
-    pub(crate) groups: Vec<Option<Items<Edit>>>,
-    ghost long: { length groups.items ≡ MAX_SESSIONS + 1 },
-    ghost small: { AreSmall groups.items },
-}
-
-impl Drop for OpenGroups {
-    fn drop(self) {
-        let OpenGroups { groups: _ } = self;
-    }
-}
 
 // No group for each session.
 fn none_open(alloc: Global) -> Result<Vec<Option<Items<Edit>>>, Memory>

@@ -13,6 +13,7 @@ mod edit_line;
 mod edit_word;
 mod fault;
 mod groups;
+mod open_groups;
 mod read;
 mod script;
 mod script_line;

@@ -13,7 +13,7 @@ ghost use Rattle.script_text.specs.Steps.{IsMisplacedIn, StopsAt, TellsNext, gro
 
 use crate::arguments::next_text;
 use crate::fault::{LineStop, ScriptCause, ScriptFault};
-use crate::groups::OpenGroups;
+use crate::open_groups::OpenGroups;
 use crate::script::{MAX_SESSIONS, Script, ScriptLine};
 use crate::script_line::{line_of, session_of};
 use crate::text_line::{LineCommand, TextLine};

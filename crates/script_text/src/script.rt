@@ -20,6 +20,7 @@ pub struct Group {
 impl Model for Group {
     ghost use Rattle.std.specs.Prelude.{List};
     ghost use Rattle.edit_rules.specs.declared.edit.Edit.{Edit as AnEdit};
+    ghost use Rattle.script_text.specs.Sizes.{HasGroupSize};
 
     ghost Value = { List AnEdit };
 
