@@ -215,7 +215,7 @@ class RoundTripTest(unittest.TestCase):
         self.assertEqual(twice.framework.names, {1: "x", 2: "a2", 3: "a3"})
 
     def test_examples_are_the_files_with_numbers(self):
-        for name in ("hearing.af", "inheritance.af", "anticoagulant.aba", "photograph.aba"):
+        for name in ("hearing.af", "inheritance.af", "anticoagulant.aba", "photograph.aba", "fines.aba"):
             with self.subTest(name):
                 case = Case.from_file(EXAMPLES / Path(name).with_suffix(".case"))
                 framework = Framework.from_file(EXAMPLES / name)
