@@ -7,4 +7,5 @@ mod EditLines
 pub mod FirstFaults
 mod LineCauses
 mod GroupCauses
+mod SlotLemmas
 pub mod OneScript

@@ -1,6 +1,7 @@
 //! How lines open, fill and end the groups of edits of a script.
 
-ghost use Rattle.std.specs.Prelude.{◌≡◌, ◌↔◌, ◌<◌, ◌≤◌, ◌+◌, ◌==◌, ◌++◌, ◌∷◌, [], ℕ, List, Some, None, IfOk, OnOk, IsTrue};
+ghost use Rattle.std.specs.Prelude.{◌≡◌, ◌↔◌, ◌<◌, ◌≤◌, ◌+◌, ◌==◌, ◌++◌, ◌∷◌, [], ℕ, List, Some, None, IfOk, OnOk};
+ghost use Rattle.std.specs.Prelude.{IsTrue, false};
 ghost use Rattle.std.specs.Prelude.{if◌then◌else◌, length};
 ghost use Rattle.edit_rules.specs.declared.edit.Edit.{Edit as AnEdit};
 ghost use Rattle.script_text.specs.declared.script.ScriptCommand.TheVariants.{Edit as changes};
@@ -23,7 +24,7 @@ fn none_open(alloc: Global) -> Result<Vec<Option<Items<Edit>>>, Memory>
     ensures none { IfOk result (λ groups. (s : ℕ) → group_at groups.items s ≡ None) }
 {
     let mut groups = Vec::new(alloc);
-    while groups.len() <= MAX_SESSIONS as usize {
+    'sessions: while groups.len() <= MAX_SESSIONS as usize {
         groups.push(None)?;
     }
     Ok(groups)
@@ -45,7 +46,7 @@ fn replace_at(
 
 // The edits and another one.
 fn with_edit(mut edits: Items<Edit>, edit: Edit) -> Result<Items<Edit>, Memory>
-    ensures { IfOk result (λ more. more ≡ edits.entry ++ edit ∷ []) }
+    ensures { IfOk result (λ more. more ≡ edits ++ edit ∷ []) }
 {
     edits.push(edit)?;
     Ok(edits)
@@ -93,7 +94,8 @@ impl OpenGroups {
     pub(crate) fn is_any_open(&self) -> bool
         ensures { IsTrue result ↔ ((s : ℕ) × (edits : List AnEdit) × (groups_of self.now s ≡ Some edits)) }
     {
-        for group in self.groups.as_slice() {
+        let groups = self.groups.as_slice();
+        for group in groups {
             if group.is_some() {
                 return true;
             }

@@ -1,9 +1,9 @@
 //! The groups of edits that the sessions of a script have open.
 
 ghost use Rattle.std.specs.Prelude.{◌≡◌, ◌+◌, length};
+ghost use Rattle.script_text.specs.declared.script.TheConstants.{MAX_SESSIONS};
 ghost use Rattle.script_text.specs.Sizes.{AreSmall};
 
-use crate::script::MAX_SESSIONS;
 use edit_rules::Edit;
 use lists::Items;
 

@@ -67,7 +67,7 @@ fn read_lines(
     ensures fault { IfErr result (BreaksAt (kept left.entry)) }
 {
     let mut script = Items::new(alloc);
-    while let Some(line) = next_line(alloc, &mut left, groups)? {
+    'lines: while let Some(line) = next_line(alloc, &mut left, groups)? {
         groups.take(alloc, line, &mut script)?;
     }
     Ok(script)
