@@ -9,9 +9,9 @@ use Rattle.semantics.specs.Frameworks.{Framework, af, aba}
 use Rattle.certificate_claims.specs.SetLiterals.{has, is_ranged, members, wider}
 use Rattle.certificate_claims.proofs.RangeLists.{kept_alike}
 use Rattle.certificate_claims.proofs.SetTests.{has_from, has_gives, ranged_from, ranged_gives}
-use Rattle.answer_claims.specs.declared.words.Word.TheVariants.{Ranged}
+use Rattle.certificate_claims.specs.declared.words.Word.TheVariants.{Ranged}
 use Rattle.answer_claims.specs.SetFacts.{IsRangeOf}
-use Rattle.answer_claims.specs.Words.{literal_of}
+use Rattle.certificate_claims.specs.Words.{literal_of}
 
 pub is_range : (f : Af) (s range : List ℕ) → IsSetOf (IsInRange f s) range → IsRangeOf (af f) s range
 is_range f s range h = record {

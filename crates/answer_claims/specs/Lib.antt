@@ -1,5 +1,4 @@
 pub mod SideClauses
-pub mod Words
 pub mod SetFacts
 pub mod ClaimParts
 pub use Rattle.edit_rules as edit_rules

@@ -8,11 +8,9 @@ mod hits;
 mod kinds;
 mod rows;
 pub mod sides;
-mod words;
 
 pub use claim::{Claim, is_goal};
 pub use claims::claims_of;
 pub use kinds::range_of;
 pub use rows::{opposite, row, shown_sets};
 pub use sides::{SideKind, side_clause};
-pub use words::{Word, literal, push_all};

@@ -6,10 +6,10 @@ ghost use Rattle.meaning_atoms.specs.Literals.{denied};
 ghost use Rattle.certificate_claims.specs.SetLiterals.{attacked, has, members, wider};
 ghost use Rattle.edit_rules.specs.Kinds.{framework_of};
 ghost use Rattle.answer_claims.specs.SideClauses.{side_of};
-ghost use Rattle.answer_claims.specs.Words.{literal_of};
+ghost use Rattle.certificate_claims.specs.Words.{literal_of};
 
 use crate::kinds::{members_of, range_of};
-use crate::words::{Word, push_all};
+use certificate_claims::{Word, push_all};
 use edit_rules::Framework;
 use lists::Memory;
 use meaning_atoms::{Atom, AtomLit};

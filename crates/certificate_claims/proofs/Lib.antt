@@ -18,3 +18,4 @@ pub mod Evidence
 pub mod Right
 pub mod Verdicts
 pub mod Agreeing
+pub mod WordLemmas

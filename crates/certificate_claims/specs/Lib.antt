@@ -8,6 +8,7 @@ pub mod Refutations
 pub mod Rights
 pub mod SetLiterals
 pub mod Verdicts
+pub mod Words
 pub use Rattle.aba_axioms as aba_axioms
 pub use Rattle.aba_axioms.specs.aba_laws as aba_laws
 pub use Rattle.af_axioms as af_axioms

@@ -10,6 +10,7 @@ mod order;
 mod ranges;
 pub mod row;
 pub mod verdict;
+mod words;
 
 pub use axiom::clause_of_axiom;
 pub use certificate::{Certificate, Refutation, Step};
@@ -17,3 +18,4 @@ pub use order::{none_within, sets_rise};
 pub use ranges::{FirstRanged, first_ranged, no_range_within, ranges_of, with_range};
 pub use row::{Row, mode_atom};
 pub use verdict::{Cause, Verdict};
+pub use words::{Word, literal, push_all};

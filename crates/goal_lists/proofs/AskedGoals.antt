@@ -22,10 +22,10 @@ use Rattle.aba_laws.specs.AfNotions.{collective_for}
 use Rattle.meaning_atoms.specs.AtomText.{numbers_of}
 use Rattle.meaning_atoms.specs.Literals.{affirmed, denied, negated}
 use Rattle.meaning_atoms.specs.Worlds.{world_of, HoldsOf, Says, IsTrueAlone}
-use Rattle.oracle_face.specs.certificate_claims.specs.Refutations.{Claim}
-use Rattle.oracle_face.specs.certificate_claims.proofs.SetTests.{has_from, has_gives, ranged_from}
-use Rattle.oracle_face.specs.certificate_claims.specs.SetLiterals.{has, is_ranged, members, are_in, are_out, are_ranged, outside, differs, wider, attacked, struck}
-use Rattle.oracle_face.specs.certificate_claims.proofs.KindFacts.{member_is, numbered_members, struck_is}
+use Rattle.certificate_claims.specs.Refutations.{Claim}
+use Rattle.certificate_claims.proofs.SetTests.{has_from, has_gives, ranged_from}
+use Rattle.certificate_claims.specs.SetLiterals.{has, is_ranged, members, are_in, are_out, are_ranged, outside, differs, wider, attacked, struck}
+use Rattle.certificate_claims.proofs.KindFacts.{member_is, numbered_members, struck_is}
 use Rattle.oracle_face.specs.Logs.{OracleLog, SideClause, IsNumberOf, IsSameClause, side_at}
 use Rattle.oracle_face.specs.Goals.{AreGoals, AsksSide, IsClaimSide, IsGoal, IsMode, IsHitAtom, IsOfOneKind, IsOneSided, IsSide, IsWithinClaim, MakesTrue, SpeaksOf, Tells}
 use Rattle.oracle_face.proofs.StepTruth.{side_literals}

@@ -20,8 +20,8 @@ use Rattle.meaning_atoms.specs.declared.atom.Atom.TheVariants.{Member, Range, Ad
 use Rattle.meaning_atoms.specs.declared.atom.AtomLit.{AtomLit}
 use Rattle.meaning_atoms.specs.Literals.{affirmed, denied}
 use Rattle.meaning_atoms.specs.Worlds.{world_of, Holds, HoldsOf, Says}
-use Rattle.oracle_face.specs.certificate_claims.specs.SetLiterals.{members}
-use Rattle.oracle_face.specs.certificate_claims.proofs.KindFacts.{member_is, admissible_members as members_of}
+use Rattle.certificate_claims.specs.SetLiterals.{members}
+use Rattle.certificate_claims.proofs.KindFacts.{member_is, admissible_members as members_of}
 use Rattle.oracle_face.specs.declared.face.Found.{Found}
 use Rattle.oracle_face.specs.declared.face.Found.TheVariants.{Set, Refuted}
 use Rattle.oracle_face.specs.declared.face.Pending.{Pending}

@@ -14,18 +14,18 @@ use Rattle.iccma_tasks.specs.declared.task.Kind.TheVariants.{Aba as OfAba}
 use Rattle.iccma_tasks.specs.declared.task.Problem.{Problem}
 use Rattle.iccma_tasks.specs.declared.task.Problem.TheVariants.{Credulous, Sceptical, SomeExtension, AllExtensions}
 use Rattle.iccma_tasks.specs.Tasks.{HasTask}
-use Rattle.oracle_face.specs.certificate_claims.specs.Claims.{mode_atom, widest_semantics}
-use Rattle.oracle_face.specs.certificate_claims.specs.SetLiterals.{attacked, goal, has, is_ranged, members}
-use Rattle.oracle_face.specs.certificate_claims.proofs.SetTests.{has_from, has_gives, ranged_from, ranged_gives}
+use Rattle.certificate_claims.specs.Claims.{mode_atom, widest_semantics}
+use Rattle.certificate_claims.specs.SetLiterals.{attacked, goal, has, is_ranged, members}
+use Rattle.certificate_claims.proofs.SetTests.{has_from, has_gives, ranged_from, ranged_gives}
 use Rattle.oracle_face.specs.Goals.{IsGoal, IsMode}
 use Rattle.oracle_face.specs.Kinds.{IsRanged, is_assumption_based}
 use Rattle.oracle_face.specs.Logs.{SideClause}
-use Rattle.answer_claims.specs.edit_rules.specs.Fitting.{IsKnown}
-use Rattle.answer_claims.specs.edit_rules.specs.Kinds.{kind_of}
+use Rattle.edit_rules.specs.Fitting.{IsKnown}
+use Rattle.edit_rules.specs.Kinds.{kind_of}
 use Rattle.goal_lists.specs.Asking.{query_atom}
-use Rattle.answer_claims.specs.Words.{literal_of}
+use Rattle.certificate_claims.specs.Words.{literal_of}
 use Rattle.goal_lists.specs.Words.{struck_word}
-use Rattle.answer_claims.specs.declared.words.Word.{Word}
+use Rattle.certificate_claims.specs.declared.words.Word.{Word}
 
 -- the goal of a query is that of its kind
 pub goal_by_kind : (f : Framework) (q : ℕ) → goal f q ≡ affirmed (query_atom (is_assumption_based f) q)

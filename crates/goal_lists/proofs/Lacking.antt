@@ -4,9 +4,9 @@ use Rattle.std.proofs.lemmas.List.{append-nil, map-append, take_more}
 use Rattle.std.proofs.lemmas.List.Elements.{filter-append}
 use Rattle.lists.specs.Members.{IsSetOf}
 use Rattle.semantics.specs.Frameworks.{Framework}
-use Rattle.oracle_face.specs.certificate_claims.specs.SetLiterals.{has, is_ranged, members, wider, are_ranged}
-use Rattle.oracle_face.specs.certificate_claims.proofs.RangeLists.{kept_alike}
-use Rattle.oracle_face.specs.certificate_claims.proofs.SetTests.{one_kept, one_lost}
+use Rattle.certificate_claims.specs.SetLiterals.{has, is_ranged, members, wider, are_ranged}
+use Rattle.certificate_claims.proofs.RangeLists.{kept_alike}
+use Rattle.certificate_claims.proofs.SetTests.{one_kept, one_lost}
 use Rattle.oracle_face.specs.Kinds.{IsRanged, is_assumption_based}
 use Rattle.goal_lists.proofs.GoalKinds.{range_test}
 

@@ -10,8 +10,8 @@ use Rattle.lists.proofs.ListTests.{all_from, all_gives, any_from, any_gives}
 use Rattle.lists.proofs.Membership.{Contains-nil, Contains-head, Contains-cons_cases}
 use Rattle.plain_lits.proofs.HintCheckLemmas.{Contains-mapped}
 use Rattle.semantics.proofs.Decided.{search_list, found_in, decide_not, decide_member}
-use Rattle.oracle_face.specs.certificate_claims.proofs.SetTests.{has_from, has_gives}
-use Rattle.oracle_face.specs.certificate_claims.specs.SetLiterals.{has}
+use Rattle.certificate_claims.proofs.SetTests.{has_from, has_gives}
+use Rattle.certificate_claims.specs.SetLiterals.{has}
 use Rattle.goal_lists.specs.AllSets.{all_sets, is_part}
 
 -- fewer items pass a narrower test

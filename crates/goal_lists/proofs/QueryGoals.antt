@@ -11,16 +11,16 @@ use Rattle.meaning_atoms.specs.declared.atom.AtomLit.{AtomLit}
 use Rattle.meaning_atoms.specs.Literals.{affirmed, denied, negated, AsksNothing}
 use Rattle.meaning_atoms.specs.Worlds.{world_of, Holds, HoldsOf, IsAsk, IsTrueAlone, Says}
 use Rattle.meaning_atoms.proofs.Clauses.{alone_holds, holds_alone, says_moved}
-use Rattle.oracle_face.specs.certificate_claims.specs.Acceptance.{AcceptsAsSaid}
-use Rattle.oracle_face.specs.certificate_claims.specs.Claims.{claim_of}
-use Rattle.oracle_face.specs.certificate_claims.specs.SetLiterals.{goal}
-use Rattle.oracle_face.specs.certificate_claims.proofs.GoalLists.{asks_cons, asks_nil}
-use Rattle.oracle_face.specs.certificate_claims.proofs.KindFacts.{denied_is, goal_asks_nothing, goal_is}
+use Rattle.certificate_claims.specs.Acceptance.{AcceptsAsSaid}
+use Rattle.certificate_claims.specs.Claims.{claim_of}
+use Rattle.certificate_claims.specs.SetLiterals.{goal}
+use Rattle.certificate_claims.proofs.GoalLists.{asks_cons, asks_nil}
+use Rattle.certificate_claims.proofs.KindFacts.{denied_is, goal_asks_nothing, goal_is}
 use Rattle.oracle_face.specs.Goals.{AreGoals, AsksSide, IsGoal, IsMode, MakesTrue, Refutes, RefutesGoals}
 use Rattle.oracle_face.specs.Kinds.{is_assumption_based}
 use Rattle.oracle_face.specs.Logs.{OracleLog, SideClause, literals_of}
 use Rattle.oracle_face.proofs.Refuting.{refutes_claim}
-use Rattle.answer_claims.specs.edit_rules.specs.Fitting.{IsKnown}
+use Rattle.edit_rules.specs.Fitting.{IsKnown}
 use Rattle.goal_lists.specs.Asking.{are_asked, goals_about, query_atom, query_goals, query_literal, IsAskableAbout}
 use Rattle.goal_lists.specs.Sides.{AreAsksOf}
 use Rattle.goal_lists.proofs.AskedGoals.{asked_form, plain_from}

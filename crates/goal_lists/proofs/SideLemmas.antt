@@ -11,8 +11,8 @@ use Rattle.meaning_atoms.specs.declared.atom.Atom.TheVariants.{Member, Range, As
 use Rattle.meaning_atoms.specs.declared.atom.AtomLit.{AtomLit}
 use Rattle.meaning_atoms.specs.Literals.{affirmed, denied, AsksNothing}
 use Rattle.meaning_atoms.specs.Worlds.{world_of, IsTrueAlone}
-use Rattle.oracle_face.specs.certificate_claims.specs.Claims.{claim_of}
-use Rattle.oracle_face.specs.certificate_claims.specs.Refutations.{Claim}
+use Rattle.certificate_claims.specs.Claims.{claim_of}
+use Rattle.certificate_claims.specs.Refutations.{Claim}
 use Rattle.oracle_face.specs.Goals.{IsClaimSide, MakesTrue, Refutes, RefutesGoals, SpeaksOf}
 use Rattle.oracle_face.specs.declared.face.Found.{Found}
 use Rattle.oracle_face.specs.Growing.{Grows, IsFound, Making, Obliges}

@@ -1,7 +1,7 @@
 -- All sets that can be made of numbers.
 use Rattle.std.specs.Prelude.{ℕ, Bool, List, [], ◌∷◌, ◌++◌, map}
 use Rattle.std.specs.List.{list_all}
-use Rattle.oracle_face.specs.certificate_claims.specs.SetLiterals.{has}
+use Rattle.certificate_claims.specs.SetLiterals.{has}
 
 -- the sets of the numbers in a list, each as a part of the list
 abbrev pub all_sets : List ℕ → List (List ℕ)

@@ -8,8 +8,8 @@ use Rattle.meaning_atoms.specs.declared.atom.Atom.TheVariants.{Member, Range, Cf
 use Rattle.meaning_atoms.specs.declared.atom.AtomLit.{AtomLit}
 use Rattle.meaning_atoms.specs.declared.atom.Closure.TheVariants.{Own}
 use Rattle.meaning_atoms.specs.Literals.{affirmed, negated}
-use Rattle.oracle_face.specs.certificate_claims.specs.SetLiterals.{goal, are_in, are_out, are_ranged, members}
-use Rattle.answer_claims.specs.edit_rules.specs.Fitting.{IsKnown}
+use Rattle.certificate_claims.specs.SetLiterals.{goal, are_in, are_out, are_ranged, members}
+use Rattle.edit_rules.specs.Fitting.{IsKnown}
 use Rattle.oracle_face.specs.Goals.{IsMode, SpeaksOf}
 use Rattle.oracle_face.specs.Logs.{IsNumberOf, SideClause, side_at}
 

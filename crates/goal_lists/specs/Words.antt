@@ -1,7 +1,7 @@
 -- The word that a number is attacked.
 use Rattle.std.specs.Prelude.{Bool, true, false}
-use Rattle.answer_claims.specs.declared.words.Word.{Word}
-use Rattle.answer_claims.specs.declared.words.Word.TheVariants.{Struck, Contrary}
+use Rattle.certificate_claims.specs.declared.words.Word.{Word}
+use Rattle.certificate_claims.specs.declared.words.Word.TheVariants.{Struck, Contrary}
 
 -- by whether the framework is assumption-based
 abbrev pub struck_word : Bool → Word

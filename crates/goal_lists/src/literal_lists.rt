@@ -3,14 +3,14 @@
 ghost use Rattle.std.specs.Prelude.{ℕ, List, ◌≡◌, ◌++◌, ◌∷◌, [], false, not, map, filter, IfOk, OnOk};
 ghost use Rattle.semantics.specs.Frameworks.{Framework};
 ghost use Rattle.meaning_atoms.specs.Literals as literals;
-ghost use Rattle.oracle_face.specs.certificate_claims.specs.SetLiterals.{are_in, are_out, are_ranged, has, members};
-ghost use Rattle.oracle_face.specs.certificate_claims.specs.SetLiterals as set_literals;
+ghost use Rattle.certificate_claims.specs.SetLiterals.{are_in, are_out, are_ranged, has, members};
+ghost use Rattle.certificate_claims.specs.SetLiterals as set_literals;
 ghost use Rattle.oracle_face.specs.Kinds.{IsRanged, is_assumption_based};
 ghost use Rattle.lists.specs.Members.{IsSetOf};
-ghost use Rattle.answer_claims.specs.Words.{literal_of};
+ghost use Rattle.certificate_claims.specs.Words.{literal_of};
 ghost use Rattle.goal_lists.specs.Words.{struck_word};
 
-use answer_claims::{Word, literal, push_all};
+use certificate_claims::{Word, literal, push_all};
 use lists::Memory;
 use meaning_atoms::{Atom, AtomLit};
 use set_lists::NumSet;

@@ -1,4 +1,4 @@
-use Rattle.answer_claims.proofs.SideLemmas.{tests_member}
+use Rattle.certificate_claims.proofs.WordLemmas.{tests_member}
 use Rattle.answer_claims.proofs.sides.lacks.Goals as goal
 
 pub returns : goal.returns

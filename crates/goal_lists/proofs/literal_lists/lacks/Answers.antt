@@ -1,4 +1,4 @@
-use Rattle.answer_claims.proofs.SideLemmas.{tests_member}
+use Rattle.certificate_claims.proofs.WordLemmas.{tests_member}
 use Rattle.goal_lists.proofs.literal_lists.lacks.Goals as goal
 
 pub returns : goal.returns

@@ -1,6 +1,6 @@
 use Rattle.std.proofs.Common.{not}
-use Rattle.oracle_face.specs.certificate_claims.specs.SetLiterals.{has}
-use Rattle.answer_claims.specs.Words.{literal_of}
+use Rattle.certificate_claims.specs.SetLiterals.{has}
+use Rattle.certificate_claims.specs.Words.{literal_of}
 use Rattle.goal_lists.proofs.Lacking.{said_more}
 use Rattle.goal_lists.proofs.literal_lists.literals_outside.Goals as goal
 

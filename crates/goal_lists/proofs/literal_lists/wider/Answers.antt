@@ -1,5 +1,5 @@
 use Rattle.std.proofs.Common.{◌∙◌, ap, not, filter}
-use Rattle.oracle_face.specs.certificate_claims.specs.SetLiterals.{are_ranged, has}
+use Rattle.certificate_claims.specs.SetLiterals.{are_ranged, has}
 use Rattle.goal_lists.proofs.Lacking.{lacks_range}
 use Rattle.goal_lists.proofs.literal_lists.wider.Goals as goal
 

@@ -1,7 +1,7 @@
 use Rattle.std.proofs.Common.{◌∙◌, ap, ◌++◌, ◌∷◌, []}
-use Rattle.answer_claims.specs.Words.{literal_of}
-use Rattle.answer_claims.proofs.SideLemmas.{mapped_more}
-use Rattle.answer_claims.proofs.words.push_all.Goals as goal
+use Rattle.certificate_claims.specs.Words.{literal_of}
+use Rattle.certificate_claims.proofs.WordLemmas.{mapped_more}
+use Rattle.certificate_claims.proofs.words.push_all.Goals as goal
 
 pub loop-number-preserved : goal.loop-number-preserved
 loop-number-preserved c =

@@ -1,7 +1,7 @@
 //! Literals by what they say of a number.
 
 ghost use Rattle.std.specs.Prelude.{◌≡◌, ◌++◌, map, OnOk};
-ghost use Rattle.answer_claims.specs.Words.{literal_of};
+ghost use Rattle.certificate_claims.specs.Words.{literal_of};
 
 use lists::Memory;
 use meaning_atoms::{Atom, AtomLit, Closure};

@@ -1,6 +1,6 @@
 use Rattle.std.proofs.Common.{◌≡◌, ◌++◌, map, take}
-use Rattle.answer_claims.specs.Words.{literal_of}
-use Rattle.answer_claims.proofs.words.push_all.Given as goal
+use Rattle.certificate_claims.specs.Words.{literal_of}
+use Rattle.certificate_claims.proofs.words.push_all.Given as goal
 
 abbrev pub invariant-loop-number : goal.invariant-loop-number
 invariant-loop-number l =
