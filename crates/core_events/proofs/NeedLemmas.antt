@@ -9,6 +9,9 @@ use Rattle.semantics.specs.Frameworks.{Framework}
 use Rattle.meaning_atoms.specs.declared.axiom.AxiomName.{AxiomName}
 use Rattle.edit_rules.specs.declared.edit.Edit.{Edit}
 use Rattle.edit_rules.specs.Replay.{after_edit, replay}
+use Rattle.edit_history.specs.declared.entry.HistoryEntry.{HistoryEntry}
+use Rattle.edit_history.specs.Entries.{edits_of}
+use Rattle.edit_history.proofs.EntryLemmas.{edits_more}
 use Rattle.oracle_face.specs.declared.entry.Entry.{Entry as PoolEntry}
 use Rattle.oracle_face.specs.Needed.{IsNeeded}
 use Rattle.core_logs.proofs.Walked.{IsSome}
@@ -37,6 +40,15 @@ after_next f now next edits i edit lt read so_far step =
 pub after_all : (f now : Framework) (edits : List Edit) (i : ℕ) → length edits ≤ i
     → now ≡ replay f (take i edits) → now ≡ replay f edits
 after_all f now edits i le so_far = so_far ∙ ap (replay f) (take_all i edits le)
+
+-- the edits of entries up to the next one
+pub edits_next : (entries : List HistoryEntry) (i : ℕ) (entry : HistoryEntry) (now next : List Edit) → i < length entries
+    → entry ≡ get_or entries i entry → now ≡ edits_of (take i entries) → next ≡ now ++ entry.edits
+    → next ≡ edits_of (take (i + 1) entries)
+edits_next entries i entry now next lt read so_far step =
+    step ∙ (ap (λ l. l ++ entry.edits) so_far
+    ∙ (sym (edits_more (take i entries) entry)
+    ∙ ap edits_of (ap (λ (e : HistoryEntry). take i entries ++ e ∷ []) read ∙ sym (take_more entries i entry lt))))
 
 -- ---- needed axioms
 

@@ -1,8 +1,8 @@
 -- Changes of attacks, edit by edit.
 use Rattle.std.proofs.Common.{◌≡◌, ◌∙◌, ℕ, ◌+◌, ◌<◌, Bool, true, false, not, List, [], ◌∷◌, ◌++◌, length, map, take}
 use Rattle.std.proofs.Common.{get_or, refl, sym, ap, subst, inl, inr, ⊎_elim, Ok, Err, Option, Some, None}
-use Rattle.std.specs.Prelude.{◌⊎◌, ◌↔◌, ◌≢◌, ◌==◌, ◌&&◌, Contains, IsSome, filter}
-use Rattle.std.proofs.lemmas.Bool.{cases_Bool, eqb-true, eq-eqb, false≢true, true≢false}
+use Rattle.std.specs.Prelude.{◌⊎◌, ◌↔◌, ◌≢◌, ◌==◌, Contains, IsSome, filter}
+use Rattle.std.proofs.lemmas.Bool.{cases_Bool, eqb-true, eq-eqb, false≢true}
 use Rattle.std.proofs.lemmas.List.{map-append}
 use Rattle.std.proofs.lemmas.Map.Views.{Contains-keys_from_lookup}
 use Rattle.lists.proofs.Filters.{Contains-filter}
@@ -15,11 +15,11 @@ use Rattle.edit_rules.specs.declared.effect.EditFault.{EditFault}
 use Rattle.edit_rules.specs.declared.effect.EditFault.TheVariants.{AttackIsThere, NoSuchAttack}
 use Rattle.edit_rules.specs.Applying.{AreTold}
 use Rattle.edit_rules.specs.Edits.{af_with_attack, af_without_attack, attack_added, attack_dropped, edit_outcome}
-use Rattle.edit_rules.specs.Edits.{end_refusals, outside, unknown}
+use Rattle.edit_rules.specs.Edits.{end_refusals}
 use Rattle.edit_rules.specs.Effects.{plain_effect}
 use Rattle.edit_rules.specs.Groups.{group_told}
 use Rattle.edit_rules.specs.Pairs.{has_pair, with_pair, without_pair}
-use Rattle.edit_rules.specs.Refusals.{Refusal, refused_if}
+use Rattle.edit_rules.specs.Refusals.{refused_if}
 use Rattle.edit_rules.specs.Replay.{replay}
 use Rattle.edit_rules.proofs.EditTests.{pair_there, there_pair}
 use Rattle.edit_rules.proofs.EditWordTests.{both_from, both_gives, is_false, same_pair}

@@ -2,7 +2,7 @@
 use Rattle.std.proofs.Common.{◌≡◌, ◌∙◌, ℕ, ◌+◌, ◌<◌, List, [], ◌∷◌, ◌++◌, length, take, drop, get_or, refl, sym}
 use Rattle.std.proofs.Common.{ap, subst}
 use Rattle.std.proofs.Common.{inl, inr, ⊎_elim}
-use Rattle.std.specs.Prelude.{◌⊎◌, ◌↔◌, ◌≢◌, Contains}
+use Rattle.std.specs.Prelude.{◌⊎◌, ◌↔◌, Contains}
 use Rattle.std.proofs.lemmas.List.{take-append-drop, take_more}
 use Rattle.std.proofs.lemmas.List.Elements.{Contains-append_left, Contains-push, Contains-push_cases}
 use Rattle.lists.proofs.Membership.{Contains-cons_cases, Contains-head, Contains-nil}

@@ -73,8 +73,9 @@ pub struct Effects {
 }
 
 /// Changes a framework by a group of edits, one by one, or leaves it as it was: where an edit is refused by the
-/// framework behind those before it, and where memory is refused. Attacks that come or go in an abstract framework do so in
-/// place, in time linear in the group beside what each takes; every other group is made in a copy of the framework.
+/// framework behind those before it, and where memory is refused. Attacks that come or go in an abstract framework do
+/// so in place, in time linear in the group beside what each takes; every other group is made in a copy of the
+/// framework.
 pub fn apply_group(
     alloc: Global,
     framework: &mut Framework,

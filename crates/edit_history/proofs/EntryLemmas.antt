@@ -1,8 +1,7 @@
 -- What edits tell that are made one after another, and how a group is added to them.
-use Rattle.std.proofs.Common.{arith, ◌≡◌, ◌∙◌, ℕ, zero, suc, ◌+◌, List, [], ◌∷◌, ◌++◌, map, take, drop, length}
+use Rattle.std.proofs.Common.{arith, ◌≡◌, ◌∙◌, ℕ, zero, suc, ◌+◌, List, [], ◌∷◌, ◌++◌, take, drop, length}
 use Rattle.std.proofs.Common.{Ok, refl, sym, ap, subst}
 use Rattle.std.specs.Prelude.{◌<◌, ◌≤◌, ◌-◌}
-use Rattle.std.specs.List.{flat_map}
 use Rattle.std.proofs.lemmas.List.{append-nil, append_assoc, length-append, length-map, map-append}
 use Rattle.std.proofs.lemmas.List.Elements.{All-from_recursion}
 use Rattle.turn_lock.specs.Turns.{Continues}

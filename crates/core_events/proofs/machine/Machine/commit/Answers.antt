@@ -1,5 +1,6 @@
-use Rattle.std.proofs.Common.{[], ◌∷◌, ℕ, List, ap, sym, ◌∙◌}
+use Rattle.std.proofs.Common.{[], ◌∷◌, ℕ, List, ap, refl, sym, ◌∙◌}
 use Rattle.std.specs.Prelude.{if◌then◌else◌}
+use Rattle.std.proofs.lemmas.Bool.{false≢true}
 use Rattle.edit_rules.specs.declared.edit.Edit.{Edit}
 use Rattle.edit_history.specs.declared.entry.HistoryEntry.{HistoryEntry}
 use Rattle.core_events.specs.Machines.{core_of}
@@ -10,7 +11,8 @@ abbrev entry : ℕ → List Edit → HistoryEntry
 entry s edits = record { session = s; edits = edits }
 
 pub returns-then-not-is_group : goal.returns-then-not-is_group
-returns-then-not-is_group c = ?
+returns-then-not-is_group c =
+    (refl, λ next step. false≢true (sym c.if-not-is_group.true ∙ c.is_group.ensures.1 step.0))
 
 pub returns-then-not-branch : goal.returns-then-not-branch
 returns-then-not-branch c =

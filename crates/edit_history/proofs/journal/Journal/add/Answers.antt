@@ -1,4 +1,4 @@
-use Rattle.std.proofs.Common.{◌≡◌, ◌∙◌, ◌+◌, ◌≤◌, ap, length, subst}
+use Rattle.std.proofs.Common.{◌∙◌, ◌+◌, ◌≤◌, ap, length, subst}
 use Rattle.edit_rules.specs.Kinds.{framework_of}
 use Rattle.edit_history.proofs.EntryLemmas.{committed, continues}
 use Rattle.edit_history.proofs.journal.Journal.add.Goals as goal
