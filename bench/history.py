@@ -33,7 +33,7 @@ ghost use Rattle.edit_history.specs.Hubs.{IsSeatAt};
 use dung_notions::AfPlain;
 use edit_history::{Hub, Seat};
 use edit_rules::{Edit, Framework};
-use plain_lists::Memory;
+use lists::Memory;
 use std::alloc::Global;
 use std::io;
 use std::sync::Wait;
@@ -221,7 +221,7 @@ def built(folder):
         name = line.split(":")[0]
         shutil.copytree(TOP / "crates" / name, folder / "crates" / name,
                         ignore=shutil.ignore_patterns("out", "must-fail"))
-    lines.append("history_bench: plain_lists dung_notions edit_rules turn_lock edit_history")
+    lines.append("history_bench: lists dung_notions edit_rules turn_lock edit_history")
     (folder / "crates.txt").write_text("\n".join(lines) + "\n", encoding="utf-8")
     shutil.copy(TOP / "HANDLES", folder / "HANDLES")
     crate = folder / "crates" / "history_bench"

@@ -17,7 +17,7 @@ from pathlib import Path
 
 TOP = Path(__file__).resolve().parent.parent
 STEPS = 1_000_000
-NEEDED = ("plain_lists", "plain_lits", "hinted_log")
+NEEDED = ("lists", "plain_lits", "hinted_log")
 
 # It stands here, and not in a file of its own, since `rt ci` refuses a source outside the crates.
 FILLING = """\

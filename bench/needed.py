@@ -20,7 +20,7 @@ TOP = Path(__file__).resolve().parent.parent
 ARGUMENTS = 1_000_000
 ATTACKS = 3_000_000
 
-NEEDED = ("plain_lists", "num_text", "semantics", "set_lists", "meaning_atoms", "attack_index", "dung_notions",
+NEEDED = ("lists", "num_text", "semantics", "set_lists", "meaning_atoms", "attack_index", "dung_notions",
           "iccma_tasks", "af_axioms", "plain_lits", "certificate_claims", "oracle_face", "af_encoding")
 
 # It stands here, and not in a file of its own, since `rt ci` refuses a source outside the crates.
@@ -32,7 +32,7 @@ PROGRAM = """\
 use af_encoding::{decode, needed};
 use dung_notions::AfPlain;
 use meaning_atoms::{Atom, AtomLit};
-use plain_lists::Memory;
+use lists::Memory;
 use std::alloc::Global;
 use std::io;
 use std::rt::Clock;
@@ -148,7 +148,7 @@ def built(folder):
                         ignore=shutil.ignore_patterns("out", "must-fail"))
     wanted = [line for line in (TOP / "crates.txt").read_text(encoding="utf-8").splitlines()
               if line.split(":")[0] in NEEDED]
-    wanted.append("needed_bench: plain_lists set_lists meaning_atoms dung_notions af_encoding")
+    wanted.append("needed_bench: lists set_lists meaning_atoms dung_notions af_encoding")
     (folder / "crates.txt").write_text("\n".join(wanted) + "\n", encoding="utf-8")
     shutil.copy(TOP / "HANDLES", folder / "HANDLES")
     crate = folder / "crates" / "needed_bench"

@@ -19,7 +19,7 @@ import tempfile
 from pathlib import Path
 
 TOP = Path(__file__).resolve().parent.parent
-NEEDED = ("plain_lists", "plain_lits", "hinted_log", "clause_watches", "unit_propagate", "decision_order",
+NEEDED = ("lists", "plain_lits", "hinted_log", "clause_watches", "unit_propagate", "decision_order",
           "conflict_learn", "sat_core")
 
 # It stands here, and not in a file of its own, since `rt ci` refuses a source outside the crates.
@@ -29,7 +29,7 @@ PROGRAM = """\
 #![tactic(auto)]
 
 use hinted_log::LogFault;
-use plain_lists::{Items, Memory};
+use lists::{Items, Memory};
 use plain_lits::{Budget, Clause, Halt, Lit};
 use sat_core::{Added, Solved, Solver};
 use std::alloc::Global;
@@ -209,7 +209,7 @@ def built(folder):
                         ignore=shutil.ignore_patterns("out", "must-fail"))
     wanted = [line for line in (TOP / "crates.txt").read_text(encoding="utf-8").splitlines()
               if line.split(":")[0] in NEEDED]
-    wanted.append("sat_bench: plain_lists plain_lits hinted_log sat_core")
+    wanted.append("sat_bench: lists plain_lits hinted_log sat_core")
     (folder / "crates.txt").write_text("\n".join(wanted) + "\n", encoding="utf-8")
     shutil.copy(TOP / "HANDLES", folder / "HANDLES")
     crate = folder / "crates" / "sat_bench"

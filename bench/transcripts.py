@@ -1,11 +1,13 @@
 #!/usr/bin/env python3
 """Runs scripts many times beside a load, and checks that each transcript is one of those that are allowed.
 
-The scripts are those of the rows of `live` in crates/argue_rows/data/rows.txt, that of examples/, and some of several
-sessions that stand here. A transcript is allowed where some order of the turns explains it. What is checked: the history
-has each session's taken edits in the order of its lines, each at the number that its reply tells; the numbers behind `at`
-never fall within a session; a refused edit is refused so on the framework after as many entries; and each answer is right
-on the framework after as many entries, by the definitions, over all subsets of its arguments or assumptions. So the
+The scripts are those of the rows of `live` in crates/argue_rows/data/rows.txt, those of examples/, and some of several
+sessions that stand here. A transcript is allowed where some order of the turns explains it. What is checked: the
+history has each session's taken groups of edits in the order of its commands, each whole and at the number that its
+reply tells;
+the numbers behind `at` never fall within a session; a refused group is refused so, at its first refused edit, on the
+framework after as many entries; the rules that come have the numbers that the reply tells; and each answer is right on
+the framework after as many entries, by the definitions, over all subsets of its arguments or assumptions. So the
 frameworks must be small. A script of one session has the same transcript in every run, which is checked too.
 
 usage: bench/transcripts.py [--program PATH] [--runs N] [--load N] [--only WORD]
@@ -17,12 +19,20 @@ import subprocess
 import sys
 import tempfile
 from pathlib import Path
+from typing import NamedTuple
 
 TOP = Path(__file__).resolve().parent.parent
 # As ./argue sets them.
 SETTINGS = {"GLIBC_TUNABLES": "glibc.malloc.hugetlb=1:glibc.malloc.top_pad=67108864", "LD_BIND_NOW": "1", **os.environ}
 LAST_NUMBER = 1_000_000
 FEW = 14  # arguments or assumptions of which all subsets are looked at
+
+
+
+def grouped(session, *edits):
+    """The lines of a group of edits."""
+    return "".join(f"{session} {words}\n" for words in ("begin", *edits, "end"))
+
 
 # Scripts of several sessions: a name, the framework, the script, and the words behind it.
 SEVERAL = [
@@ -82,6 +92,45 @@ SEVERAL = [
         "".join(f"{s} ask SE-PR\n{s} noatt {s} 3\n{s} ask DS-PR 4\n{s} ask SE-GR\n" for s in range(1, 5)),
         ["-b", "0"],
     ),
+    (
+        "eight sessions with groups of attacks that conflict",
+        # between groups one of 1 and 2 attacks the other, so the grounded set has one of them
+        "p af 4\n1 2\n1 3\n2 4\n",
+        "".join(
+            grouped(s, f"noatt {b} {a}", f"att {a} {b}") + f"{s} ask SE-GR\n"
+            + grouped(s, f"noatt {a} {b}", f"att {s % 4 + 1} 3", f"att {b} {a}") + f"{s} ask DS-PR 3\n"
+            + grouped(s, f"att {b} {a}", f"noatt {a} {b}", f"noatt {a} {b}") + f"{s} ask EE-CO\n"
+            for s in range(1, 9)
+            for b, a in [(1, 2) if s % 2 else (2, 1)]
+        ),
+        [],
+    ),
+    (
+        "eight sessions with groups of arguments that conflict",
+        "p af 3\n1 2\n2 1\n2 3\n",
+        "".join(
+            grouped(s, f"arg {s % 3 + 4}", f"att {s % 3 + 4} 2", "noatt 2 3") + f"{s} ask EE-PR\n"
+            + grouped(s, "att 2 3", f"noarg {s % 3 + 4}") + f"{s} ask DC-ST 3\n"
+            + grouped(s, "noarg 1", "arg 1", "att 1 2", "att 2 1") + f"{s} ask SE-ID\n"
+            + grouped(s, f"att {s} {s}") + f"{s} noatt {s} {s}\n"
+            for s in range(1, 9)
+        ),
+        [],
+    ),
+    (
+        "eight sessions with groups of rules that conflict",
+        # a rule and its exception: whoever asks sees both or neither, so 3 is never derived
+        "p aba 6\na 1\nc 1 5\nr 2\nr 4\n",
+        "".join(
+            f"{s} begin\n{s} rule 3 1 2\n{s % 8 + 1} ask DC-GR 3\n{s} rule 5 4\n{s} end\n"
+            + grouped(s, "rule 6", "norule 1000") + f"{s} ask SE-ST\n"
+            + grouped(s, f"norule {2 * s + 1}", f"norule {2 * s + 2}") + f"{s} ask DC-GR 3\n"
+            + grouped(s, "rule 6 1", "noasm 1", "asm 1 5", "asm 6 0") + f"{s} ask EE-PR\n"
+            + grouped(s, "noasm 1", "asm 1 0", "addcon 1 5") + f"{s} rule 6 {s % 6 + 1}\n"
+            for s in range(1, 9)
+        ),
+        [],
+    ),
 ]
 
 
@@ -101,6 +150,9 @@ class Af:
 
     def __init__(self, live, attacks):
         self.live, self.attacks = frozenset(live), frozenset(attacks)
+
+    def value(self):
+        return self.live, self.attacks
 
     def known(self, number):
         if number not in self.live:
@@ -161,6 +213,9 @@ class Aba:
 
     def __init__(self, atoms, contraries, rules, following):
         self.atoms, self.contraries, self.rules, self.following = atoms, contraries, rules, following
+
+    def value(self):
+        return self.atoms, frozenset(self.contraries.items()), frozenset(self.rules.values())
 
     def edited(self, words):
         name, numbers = words[0], [int(word) for word in words[1:]]
@@ -243,8 +298,8 @@ def is_within(smaller, sets):
 
 def extensions(framework, cache={}):
     """The extensions of each semantics, and the admissible sets, by the definitions over all subsets."""
-    if framework in cache:
-        return cache[framework]
+    if framework.value() in cache:
+        return cache[framework.value()]
     members = sorted(framework.members())
     if len(members) > FEW:
         raise SystemExit(f"{len(members)} arguments or assumptions are too many")
@@ -277,7 +332,7 @@ def extensions(framework, cache={}):
         "ID": [max(shared, key=len)],
         "STG": stage,
     }
-    cache[framework] = found
+    cache[framework.value()] = found
     return found
 
 
@@ -316,7 +371,7 @@ def wrong_answer(framework, words, lines):
 
 
 def replies_of(text):
-    """The replies of each session, as (front, lines), and the lines of the history."""
+    """The replies of each session, as (front, lines), and the words of each line of the history."""
     sessions, history, into = {}, [], None
     for line in text.splitlines():
         words = line.split()
@@ -341,60 +396,129 @@ def plain(words):
     return [words[0], *map(str, numbers)]
 
 
-def lines_of(script):
-    """The session and the words of each line that isn't skipped."""
-    rows = [line.split() for line in script.splitlines()]
-    return [(int(row[0]), row[1:]) for row in rows if row and not row[0].startswith("#")]
+class Command(NamedTuple):
+    """What a session does: a query, or edits that stand between `begin` and `end` or by themselves."""
+
+    session: int
+    rows: list
+    is_group: bool
+
+    def is_query(self):
+        return self.rows[0][0] == "ask"
+
+    def __str__(self):
+        return "; ".join(" ".join(words) for words in self.rows)
 
 
-def wrong_edit(frameworks, history, session, front, words, lines):
-    """What is wrong with the reply to an edit, or None."""
+def commands_of(rows):
+    """The commands of lines, each a session and words, in the order of their last lines."""
+    commands, groups = [], {}
+    for session, words in rows:
+        if words == ["begin"]:
+            groups[session] = []
+        elif words == ["end"]:
+            commands.append(Command(session, groups.pop(session), True))
+        elif session in groups:
+            groups[session].append(words)
+        else:
+            commands.append(Command(session, [words], False))
+    return commands
+
+
+def script_of(text):
+    """The commands of a script."""
+    rows = [line.split() for line in text.splitlines()]
+    return commands_of([(int(row[0]), row[1:]) for row in rows if row and not row[0].startswith("#")])
+
+
+def entries_of(history):
+    """The entries of a history, or None where its lines are none: a group of one stands by itself, and no line of
+    another session stands among those of a group."""
+    rows = [(int(words[0]), words[1:]) for words in history]
+    entries = commands_of(rows)
+    again = []
+    for entry in entries:
+        long = len(entry.rows) > 1
+        again += [(entry.session, ["begin"])] * long + [(entry.session, edit) for edit in entry.rows]
+        again += [(entry.session, ["end"])] * long
+    return entries if again == rows else None
+
+
+class GroupRefused(Exception):
+    """The framework refuses an edit of a group: the place of the edit, from 1, and the words."""
+
+
+def changed(framework, edits):
+    """The framework behind the edits, and what the reply adds to OK."""
+    added = ""
+    for at, words in enumerate(edits, 1):
+        try:
+            framework, more = framework.edited(words)
+        except Refused as refused:
+            raise GroupRefused(at, str(refused)) from None
+        added += more
+    return framework, added
+
+
+def wrong_edits(frameworks, history, front, command, lines):
+    """What is wrong with the reply to edits, or None."""
     taken = lines[0].split()[:1] == ["OK"]
+    if taken and front == 0:
+        return "no entry stands there"
     before = frameworks[front - 1 if taken else front]
     try:
-        _, added = before.edited(words)
-    except Refused as refused:
-        return None if lines == [f"REFUSED {refused}"] else f"not REFUSED {refused}"
+        _, added = changed(before, command.rows)
+    except GroupRefused as refused:
+        at, words = refused.args
+        told = f"REFUSED {words} edit {at}" if command.is_group else f"REFUSED {words}"
+        return None if lines == [told] else f"not {told}"
     if lines != [f"OK{added}"]:
         return f"not OK{added}"
-    return None if history[front - 1] == [str(session), *plain(words)] else "another entry stands there"
+    entry = history[front - 1]
+    made = [plain(words) for words in command.rows]
+    return None if (entry.session, entry.rows) == (command.session, made) else "another entry stands there"
 
 
 def wrong_session(frameworks, history, session, asked, replies, budgeted):
     """What is wrong with the replies of a session, or None."""
     if len(asked) != len(replies):
-        return f"{len(replies)} replies to {len(asked)} lines"
+        return f"{len(replies)} replies to {len(asked)} commands"
     last, entries = 0, []
-    for words, (front, lines) in zip(asked, replies):
-        if not last <= front < len(frameworks) or not lines:
+    for command, (front, lines) in zip(asked, replies):
+        taken = lines[:1] != [] and lines[0].startswith("OK")
+        if not last + taken <= front < len(frameworks) or not lines:
             return f"at {front} behind {last}"
         last = front
-        if words[0] == "ask":
-            wrong = None if budgeted and lines == ["UNKNOWN"] else wrong_answer(frameworks[front], words[1:], lines)
+        if command.is_query():
+            words = command.rows[0][1:]
+            wrong = None if budgeted and lines == ["UNKNOWN"] else wrong_answer(frameworks[front], words, lines)
         else:
-            wrong = wrong_edit(frameworks, history, session, front, words, lines)
-            entries += [front] if lines[0].startswith("OK") else []
+            wrong = wrong_edits(frameworks, history, front, command, lines)
+            entries += [front] if taken else []
         if wrong:
-            return f"session {session}, {' '.join(words)} at {front}: {wrong}: {' / '.join(lines)}"
-    own = [at + 1 for at, entry in enumerate(history) if entry[0] == str(session)]
+            return f"session {session}, {command} at {front}: {wrong}: {' / '.join(lines)}"
+    own = [at for at, entry in enumerate(history, 1) if entry.session == session]
     return None if own == entries else f"session {session} has the entries {own}, not {entries}"
 
 
 def wrong_transcript(framework, script, text, budgeted):
     """What is wrong with a transcript, or None."""
-    sessions, history = replies_of(text)
+    sessions, told = replies_of(text)
+    history = entries_of(told)
+    if history is None:
+        return "the history has no entries' lines"
     frameworks = [framework]
     for entry in history:
         try:
-            frameworks.append(frameworks[-1].edited(entry[1:])[0])
-        except Refused as refused:
-            return f"the history's {' '.join(entry)} is refused: {refused}"
-    lines = lines_of(script)
-    last = max((session for session, _ in lines), default=0)
+            frameworks.append(changed(frameworks[-1], entry.rows)[0])
+        except GroupRefused as refused:
+            return f"the history's {entry} is refused: {refused.args[1]}"
+    commands = script_of(script)
+    last = max((command.session for command in commands), default=0)
     if sorted(sessions) != list(range(1, last + 1)):
         return f"the sessions are {sorted(sessions)}"
     for session in sessions:
-        asked = [words for other, words in lines if other == session]
+        asked = [command for command in commands if command.session == session]
         wrong = wrong_session(frameworks, history, session, asked, sessions[session], budgeted)
         if wrong:
             return wrong
@@ -425,18 +549,23 @@ def with_ends(text):
 def listed():
     """The scripts of the rows of `live` that end well: a name, the framework, the script, and the words behind it."""
     framework = answer = ""
-    found = []
+    times, found = ["1", "*"], []
     rows = (TOP / "crates" / "argue_rows" / "data" / "rows.txt").read_bytes().decode("utf-8", "replace")
     for at, line in enumerate(rows.split("\n")):
         key, _, rest = line.partition(" ")
         if key == "framework":
             framework = with_ends(rest)
         elif key == "answer":
-            answer = with_ends(rest)
+            answer = rest
+        elif key == "times":
+            times = rest.split(" ", 1)
         elif key == "live" and " => 0 " in line:
             words = line.split(" => ")[0].split()
             units = ["-b", words[words.index("-b") + 1]] if "-b" in words else []
-            found.append((f"row {at + 1}", framework, answer, units))
+            script = answer.replace("*", int(times[0]) * times[1])
+            found.append((f"row {at + 1}", framework, with_ends(script), units))
+        if " => " in line:
+            times = ["1", "*"]
     return found
 
 
@@ -465,7 +594,7 @@ def tried(program, folder, row, runs):
         wrong = wrong_transcript(opening, script, text, bool(units))
         if wrong:
             return len(texts), f"{name}: {wrong}\n{text}"
-    if len(texts) > 1 and len({session for session, _ in lines_of(script)}) == 1:
+    if len(texts) > 1 and len({command.session for command in script_of(script)}) == 1:
         return len(texts), f"{name}: one session has several transcripts"
     return len(texts), None
 

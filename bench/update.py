@@ -1,13 +1,15 @@
 #!/usr/bin/env python3
-"""Measures how an engine follows edits of one attack in a framework of 1,000,000 arguments and 3,000,000 attacks.
+"""Measures edits of attacks, in groups of 1, 10 and 1,000, in a framework of 1,000,000 arguments and 3,000,000 attacks.
 
 It copies the crates to a temporary folder, adds a program that makes a framework of pseudo-random attacks, and has
 `rt run` prove and build it (hours where nothing of the crates is kept). The program opens an engine and has it follow
 one edit, behind which the log has all axioms that the framework needs, and then 1,000 further ones: by turns an attack
 that comes and one that goes, at places all over the framework. It tells the least, the median, the 99th percentile and
 the greatest time of an update, and beside them the time of `insert_attack` and `remove_attack` alone, 1,000 of each,
-and of one `copy`. What is claimed is that the median of an update is under a millisecond. Each edit is one that the
-framework takes: the run is wrong where an edit is missing, or the framework behind them has another number of attacks.
+and of one `copy`; and those of groups: of `apply_group`, by which a commit changes the framework, also where the last
+edit is refused, and of the updates of all edits of a group. What is claimed is that the median of an update is under a
+millisecond, and that groups of 1,000 take milliseconds. Each edit but the refused ones is one that the framework takes:
+the run is wrong where an edit is missing, or the framework behind them has another number of attacks.
 
 usage: bench/update.py [--runs K] [--program FILE] [--keep FILE]
 """
@@ -24,7 +26,10 @@ ARGUMENTS = 1_000_000
 ATTACKS = 3_000_000
 EDITS = 1_000
 
-USED = ("plain_lists", "semantics", "dung_notions", "edit_words", "edit_rules", "hinted_log", "oracle_core")
+SIZES = (1, 10, 1_000)
+FEWEST = 10  # groups of a size
+
+USED = ("lists", "semantics", "dung_notions", "edit_rules", "edit_groups", "hinted_log", "oracle_core")
 
 # It stands here, and not in a file of its own, since `rt ci` refuses a source outside the crates.
 PROGRAM = """\
@@ -38,10 +43,11 @@ ghost use Rattle.semantics.specs.Frameworks.{af};
 ghost use Rattle.edit_rules.specs.Replay.{IsTaken};
 
 use dung_notions::AfPlain;
+use edit_groups::apply_group;
 use edit_rules::{Edit, Effect, Framework};
 use hinted_log::MAX_STEPS;
+use lists::{Items, Memory};
 use oracle_core::Engine;
-use plain_lists::Memory;
 use semantics::is_argument;
 use std::alloc::Global;
 use std::io;
@@ -50,6 +56,22 @@ use std::time::Instant;
 
 /// How often numbers are drawn at most until an edit is found that the framework takes.
 const DRAWS: u32 = 1_000;
+
+/// How many edits the groups have that are measured, and the names of what an engine and a framework take for them.
+const SIZES: [(u32, &str, &str); 3] = [
+    (1, "follow_1", "group_1"),
+    (10, "follow_10", "group_10"),
+    (1_000, "follow_1000", "group_1000"),
+];
+
+/// The fewest groups of a size.
+const FEWEST: u32 = 10;
+
+/// How many groups of a size are measured, so that there are about so many edits.
+fn groups_of(count: u32, size: u32) -> u32 {
+    let groups = count.checked_div(size).unwrap_or(0);
+    if groups < FEWEST { FEWEST } else { groups }
+}
 
 /// The numbers from 1 to `count`.
 fn numbers(alloc: Global, count: u32) -> Result<Vec<u32>, Memory> {
@@ -313,6 +335,197 @@ fn print_both(
     print_times(rt, going, second)
 }
 
+/// A group of edits that are drawn, by turns an attack that comes and one that goes. The framework takes each of them
+/// by itself: the group is refused where an attack is drawn twice.
+fn drawn_group(
+    alloc: Global,
+    plain: &AfPlain,
+    state: &mut u64,
+    arguments: u32,
+    size: u32,
+    first: u32,
+) -> Option<Items<Edit>> {
+    let mut edits = Items::new(alloc);
+    for index in 0..size {
+        let comes = first.wrapping_add(index) % 2 == 0;
+        let effect = drawn(alloc, plain, state, arguments, comes)?;
+        let Ok(edit) = effect.edit.copy(alloc) else {
+            return None;
+        };
+        if edits.push(edit).is_err() {
+            return None;
+        }
+    }
+    Some(edits)
+}
+
+/// The nanoseconds that a group takes. `None` where it is refused.
+fn group_taken(
+    rt: &impl Clock,
+    alloc: Global,
+    framework: &mut Framework,
+    edits: &[Edit],
+) -> io::Result<Option<u64>> {
+    let begin = Instant::now(rt)?;
+    let end = apply_group(alloc, framework, edits);
+    let taken = begin.elapsed(rt)?.as_nanos();
+    if end.is_err() {
+        return Ok(None);
+    }
+    Ok(Some(u64::try_from(taken).unwrap_or(u64::MAX)))
+}
+
+/// The nanoseconds of a group that is refused at its last edit, which is the first one again. `None` where it is taken.
+fn group_refused(
+    rt: &impl Clock,
+    alloc: Global,
+    framework: &mut Framework,
+    mut edits: Items<Edit>,
+) -> io::Result<Option<u64>> {
+    let Some(first) = edits.as_slice().first() else {
+        return Ok(None);
+    };
+    let Ok(again) = first.copy(alloc) else {
+        return Ok(None);
+    };
+    if edits.push(again).is_err() {
+        return Ok(None);
+    }
+    let begin = Instant::now(rt)?;
+    let end = apply_group(alloc, framework, edits.as_slice());
+    let taken = begin.elapsed(rt)?.as_nanos();
+    if end.is_ok() {
+        return Ok(None);
+    }
+    Ok(Some(u64::try_from(taken).unwrap_or(u64::MAX)))
+}
+
+/// Has a framework take a group, which is drawn until it does, and tells the nanoseconds; or else refuse one.
+fn grouped(
+    rt: &impl Clock,
+    alloc: Global,
+    framework: &mut Framework,
+    state: &mut u64,
+    arguments: u32,
+    size: u32,
+    first: u32,
+    takes: bool,
+) -> io::Result<Option<u64>> {
+    for _ in 0..DRAWS {
+        let Framework::Af(plain) = &*framework else {
+            return Ok(None);
+        };
+        let Some(edits) = drawn_group(alloc, plain, state, arguments, size, first) else {
+            return Ok(None);
+        };
+        let told = if takes {
+            group_taken(rt, alloc, framework, edits.as_slice())?
+        } else {
+            group_refused(rt, alloc, framework, edits)?
+        };
+        if told.is_some() {
+            return Ok(told);
+        }
+    }
+    Ok(None)
+}
+
+/// Has a framework take so many groups, or else refuse them: the nanoseconds of each.
+fn all_grouped(
+    rt: &impl Clock,
+    alloc: Global,
+    framework: &mut Framework,
+    state: &mut u64,
+    arguments: u32,
+    size: u32,
+    count: u32,
+    takes: bool,
+) -> io::Result<Option<Vec<u64>>> {
+    let mut times = Vec::new(alloc);
+    for index in 0..count {
+        let told = grouped(rt, alloc, framework, state, arguments, size, index, takes)?;
+        let Some(taken) = told else {
+            return Ok(None);
+        };
+        if times.push(taken).is_err() {
+            return Ok(None);
+        }
+    }
+    Ok(Some(times))
+}
+
+/// Measures groups in a copy of the framework, of each size, and then some that are refused.
+fn measure_groups(
+    rt: &(impl Clock + Print),
+    alloc: Global,
+    plain: &AfPlain,
+    state: &mut u64,
+    arguments: u32,
+    count: u32,
+) -> io::Result<()> {
+    let Ok(copy) = plain.copy(alloc) else {
+        return Ok(());
+    };
+    let mut framework = Framework::Af(copy);
+    for (size, _, name) in SIZES {
+        let groups = groups_of(count, size);
+        let told = all_grouped(rt, alloc, &mut framework, state, arguments, size, groups, true)?;
+        let Some(times) = told else {
+            return Ok(());
+        };
+        print_times(rt, name, times)?;
+    }
+    let told = all_grouped(rt, alloc, &mut framework, state, arguments, 1_000, FEWEST, false)?;
+    let Some(times) = told else {
+        return Ok(());
+    };
+    print_times(rt, "refused_1001", times)?;
+    let Framework::Af(plain) = &framework else {
+        return Ok(());
+    };
+    let there = plain.attack_count();
+    println!(rt; "grouped {there}")
+}
+
+/// The sums of so many times each.
+fn sums(alloc: Global, times: &[u64], size: u32) -> Result<Vec<u64>, Memory> {
+    let mut found = Vec::new(alloc);
+    let mut sum = 0u64;
+    let mut left = size;
+    for time in times {
+        sum = sum.saturating_add(*time);
+        left = left.saturating_sub(1);
+        if left == 0 {
+            found.push(sum)?;
+            sum = 0;
+            left = size;
+        }
+    }
+    Ok(found)
+}
+
+/// Measures how an engine follows groups of each size, edit by edit.
+fn measure_followed(
+    rt: &(impl Clock + Print),
+    alloc: Global,
+    engine: &mut Engine,
+    state: &mut u64,
+    arguments: u32,
+    count: u32,
+) -> io::Result<()> {
+    for (size, name, _) in SIZES {
+        let edits = groups_of(count, size).saturating_mul(size);
+        let Some(times) = all_followed(rt, alloc, engine, state, arguments, edits)? else {
+            return Ok(());
+        };
+        let Ok(found) = sums(alloc, &times, size) else {
+            return Ok(());
+        };
+        print_times(rt, name, found)?;
+    }
+    Ok(())
+}
+
 /// Measures a copy of the framework, and in it attacks that come and go, by turns and so many of each.
 fn measure_framework(
     rt: &(impl Clock + Print),
@@ -366,6 +579,7 @@ fn measure_engine(
     println!(rt; "second_update 1 {second}")?;
     print_both(rt, alloc, "update_coming", "update_going", &times)?;
     print_times(rt, "update", times)?;
+    measure_followed(rt, alloc, &mut engine, state, arguments, count)?;
     let Framework::Af(plain) = engine.framework() else {
         return Ok(());
     };
@@ -393,6 +607,7 @@ fn measure(
     )?;
     println!(rt; "framework {live} {there}")?;
     measure_framework(rt, alloc, &plain, &mut state, arguments, count)?;
+    measure_groups(rt, alloc, &plain, &mut state, arguments, count)?;
     measure_engine(rt, alloc, plain, &mut state, arguments, count)
 }
 
@@ -427,15 +642,16 @@ use Rattle.std.specs.Prelude.{Contains}
 use Rattle.semantics.specs.Framework.{Af}
 use Rattle.semantics.specs.Frameworks.{Framework, af}
 use Rattle.semantics.specs.Arguments.{IsArgument}
-use Rattle.edit_words.specs.declared.edit.Edit.{Edit}
-use Rattle.edit_words.specs.declared.edit.Edit.TheVariants.{AttackAdd}
-use Rattle.edit_words.specs.declared.effect.Effect.{Effect}
-use Rattle.edit_words.specs.declared.effect.EditFault.TheVariants.{AttackIsThere}
-use Rattle.edit_words.specs.Effects.{plain_effect}
-use Rattle.edit_words.specs.Refusals.{Refusal, done_unless, refused_if}
-use Rattle.edit_words.proofs.EditTests.{is_false, there_number}
-use Rattle.edit_words.proofs.RefusalLemmas.{passed}
-use Rattle.edit_rules.specs.Edits.{attack_added, edit_outcome, has_pair, outside, unknown}
+use Rattle.edit_rules.specs.declared.edit.Edit.{Edit}
+use Rattle.edit_rules.specs.declared.edit.Edit.TheVariants.{AttackAdd}
+use Rattle.edit_rules.specs.declared.effect.Effect.{Effect}
+use Rattle.edit_rules.specs.declared.effect.EditFault.TheVariants.{AttackIsThere}
+use Rattle.edit_rules.specs.Effects.{plain_effect}
+use Rattle.edit_rules.specs.Refusals.{Refusal, done_unless, refused_if}
+use Rattle.edit_rules.proofs.EditWordTests.{is_false, there_number}
+use Rattle.edit_rules.proofs.RefusalLemmas.{passed}
+use Rattle.edit_rules.specs.Edits.{attack_added, edit_outcome, outside, unknown}
+use Rattle.edit_rules.specs.Pairs.{has_pair}
 use Rattle.edit_rules.specs.Replay.{IsTaken, left_by}
 use Rattle.edit_rules.proofs.EditTests.{bounds_within, pair_there}
 
@@ -469,8 +685,8 @@ coming_taken f b a live new =
 ANSWERS = """\
 use Rattle.std.proofs.Common.{sym, subst}
 use Rattle.semantics.specs.Frameworks.{af}
-use Rattle.edit_words.specs.declared.effect.Effect.{Effect}
-use Rattle.edit_words.proofs.EditTests.{not_so}
+use Rattle.edit_rules.specs.declared.effect.Effect.{Effect}
+use Rattle.edit_rules.proofs.EditWordTests.{not_so}
 use Rattle.edit_rules.specs.Replay.{IsTaken}
 use Rattle.update_bench.proofs.TakenLemmas.{coming_taken}
 use Rattle.update_bench.proofs.coming.Goals as goal
@@ -496,6 +712,9 @@ MANY = {
     "update_coming": "`Engine::update`, an attack that comes",
     "update_going": "`Engine::update`, an attack that goes",
     "update": "`Engine::update`, both by turns",
+    **{f"group_{size}": f"`apply_group` of {size:,} edits, both by turns" for size in SIZES},
+    "refused_1001": "`apply_group` of 1,001 edits, of which the last is refused",
+    **{f"follow_{size}": f"`Engine::update` of {size:,} edits" for size in SIZES},
 }
 
 
@@ -556,11 +775,16 @@ def is_right(told, status, edits):
     if status != 0 or "framework" not in told or "edited" not in told:
         return False
     coming, going = edits - edits // 2, edits // 2
+    groups = {size: max(edits // size, FEWEST) for size in SIZES}
+    more = groups[1] % 2  # of the groups of one, of which each other one comes
     counts = {"insert_attack": edits, "remove_attack": edits, "update_coming": coming, "update_going": going,
-              "update": edits}
+              "update": edits, "refused_1001": FEWEST}
+    for size, count in groups.items():
+        counts |= {f"group_{size}": count, f"follow_{size}": count}
     live, attacks = told["framework"]
     return (all(told.get(name, [0])[0] == count for name, count in counts.items())
-            and told["edited"] == [live, attacks + 1 + coming - going])
+            and told.get("grouped") == [attacks + more]
+            and told["edited"] == [live, attacks + 1 + coming - going + more])
 
 
 def show(told):
@@ -600,10 +824,12 @@ def main():
             show(told)
             right = is_right(told, status, asked.edits)
             under = "update" in told and told["update"][2] < 1_000_000
-            wrong += not (right and under)
+            slow = [name for name in ("group_1000", "refused_1001", "follow_1000")
+                    if name not in told or told[name][2] >= 100_000_000]
+            wrong += not (right and under) or bool(slow)
             taken = "each edit was taken" if right else "WRONG, an edit is missing"
-            print(f"update: {taken}; the median of an update is {'' if under else 'NOT '}below a millisecond",
-                  flush=True)
+            print(f"update: {taken}; the median of an update is {'' if under else 'NOT '}below a millisecond, "
+                  f"that of a group of 1,000 {'NOT ' if slow else ''}below a tenth of a second", flush=True)
     sys.exit(1 if wrong else 0)
 
 

@@ -25,8 +25,8 @@ The stable interface, on which other modules may rely:
 `solve(framework, task, query=None, budget=None)` returns `Yes`, `No`, `Sets` or `Unknown`. The first three have a
 `certificate`, a text; `Yes` and `No` a `witness`, a tuple of rising numbers or None; `Sets` has `sets`, a tuple of such
 tuples in the program's order. `check(framework, task, answer, query=None)` returns `Accepted` or `Rejected`.
-`answer_text` and `read_answer` write and read an answer as the program prints it. A `Script` has edits and questions on
-a framework that changes; `Script.run` returns its `Transcript`.
+`answer_text` and `read_answer` write and read an answer as the program prints it. A `Script` has edits, groups of edits
+and questions on a framework that changes; `Script.run` returns its `Transcript`.
 
 Every other ending of the program is an exception, a subclass of `ArgueError`, named as in the README's table of
 statuses. Nothing is printed. Where the program is found: the argument `program`, else the environment variable
@@ -53,6 +53,7 @@ LARGEST_FIELD = 4_294_967_295
 MOST_ATTACK_LINES = 10_000_000
 MOST_CONTRARY_LINES = 10_000_000
 MOST_RULE_LINES = 1_000_000
+MOST_EDITS = 10_000  # of a group
 TASKS = tuple(
     "DC-CO DC-GR DC-PR DC-ST DC-SST DC-ID DC-STG DS-CO DS-GR DS-PR DS-ST DS-SST DS-ID DS-STG "
     "SE-CO SE-GR SE-PR SE-ST SE-SST SE-ID SE-STG EE-CO EE-PR EE-ST EE-SST EE-STG".split()
@@ -1035,7 +1036,15 @@ Edit = Union[
     AddRule,
     DropRule,
 ]
-Command = Union[Edit, Ask]
+
+
+class Group(NamedTuple):
+    """`begin`, 1 to 10,000 edits, `end`: they are taken whole, or none is."""
+
+    edits: tuple[Edit, ...]
+
+
+Command = Union[Edit, Group, Ask]
 
 EDITS: dict[str, type] = {
     "arg": AddArgument,
@@ -1064,17 +1073,19 @@ class ScriptLine:
 
 @dataclass(frozen=True)
 class Taken:
-    """`OK`: the edit is taken; `rule` is the number of the rule that it adds, if it adds one."""
+    """`OK`: the edit or the group is taken; `rules` are the numbers of the rules that it adds, in order."""
 
-    rule: Optional[int] = None
+    rules: Numbers = ()
 
 
 @dataclass(frozen=True)
 class Refused:
-    """`REFUSED NAME`: the framework refuses the edit, or the query doesn't fit it; with the number that it tells."""
+    """`REFUSED NAME`: the framework refuses the edit, or the query doesn't fit it; with the number that it tells. Of a
+    group, `edit` says which edit is the first that is refused, counted from 1."""
 
     name: str
     number: Optional[int] = None
+    edit: Optional[int] = None
 
 
 @dataclass(frozen=True)
@@ -1089,7 +1100,8 @@ Outcome = Union[Taken, Refused, Limited, Answer]
 
 @dataclass(frozen=True)
 class Reply:
-    """What a session got for its `place`-th line, counted from 1: from the framework after the first `at` edits."""
+    """What a session got for its `place`-th command, counted from 1: from the framework after the first `at` entries of
+    the history."""
 
     session: int
     place: int
@@ -1100,34 +1112,45 @@ class Reply:
 
 @dataclass(frozen=True)
 class Entry:
-    """An edit that was taken, and the session that made it."""
+    """A group of edits that was taken, a single edit being a group of one; and the session that made it."""
 
     session: int
-    edit: Edit
+    edits: tuple[Edit, ...]
 
 
 @dataclass(frozen=True)
 class Transcript:
-    """The replies, session by session and line by line, and the edits that were taken, in order."""
+    """The replies, session by session and command by command, and the groups of edits that were taken, in order."""
 
     replies: tuple[Reply, ...]
     history: tuple[Entry, ...]
 
     def of_session(self, session: int) -> tuple[Reply, ...]:
-        """The replies to the lines of one session, in order."""
+        """The replies to the commands of one session, in order."""
         return tuple(reply for reply in self.replies if reply.session == session)
 
     def framework_at(self, first: Framework, at: int) -> Framework:
-        """The framework after the first `at` edits; `first` is that before all edits. Raises as `Framework.edited`."""
+        """The framework after the first `at` entries; `first` is that before all. Raises as `Framework.edited`."""
         now, rule = first, len(first.rules)
-        for entry in self.history[:at]:
-            rule += isinstance(entry.edit, AddRule)
-            now = now.edited(entry.edit, rule)
+        for edit in (edit for entry in self.history[:at] for edit in entry.edits):
+            rule += isinstance(edit, AddRule)
+            now = now.edited(edit, rule)
         return now
 
 
-def command_text(command: Command) -> str:
-    """A command as a script's line has it, without the session.
+def command_lines(command: Command) -> list[str]:
+    """A command as the lines of a script have it, without the session.
+
+    >>> command_lines(Group((DropAttack(1, 2), AddAttack(2, 1))))
+    ['begin', 'noatt 1 2', 'att 2 1', 'end']
+    """
+    if isinstance(command, Group):
+        return ["begin", *map(command_text, command.edits), "end"]
+    return [command_text(command)]
+
+
+def command_text(command: Union[Edit, Ask]) -> str:
+    """An edit or a query as a script's line has it, without the session.
 
     >>> command_text(AddRule(4, (1, 2))), command_text(Ask("SE-GR"))
     ('rule 4 1 2', 'ask SE-GR')
@@ -1143,14 +1166,14 @@ def command_text(command: Command) -> str:
 
 @dataclass(frozen=True)
 class Script:
-    """The lines of all sessions. Each session does its own in order, all at the same time.
+    """The commands of all sessions. Each session does its own in order, all at the same time.
 
     >>> three = Framework.of_attacks([(1, 2), (2, 3)])
     >>> script = Script.from_text("1 ask DC-PR 3\\n1 noatt 1 2\\n1 ask SE-GR\\n")
     >>> for reply in script.run(three).replies:
     ...     print(reply.at, reply.outcome)
     0 Yes(witness=(1, 3))
-    1 Taken(rule=None)
+    1 Taken(rules=())
     1 Sets(sets=((1, 2),))
     """
 
@@ -1163,12 +1186,17 @@ class Script:
 
     @classmethod
     def from_text(cls, text: str) -> Script:
-        """Raises ScriptFault for the first line with a fault, named as the program names it."""
-        return cls(tuple(_script_line(line) for line in _kept(_lines(text))))
+        """A group stands where its `end` does. Raises ScriptFault for the first line with a fault, named as the program
+        names it."""
+        lines, groups = _lines(text), _OpenGroups()
+        read = [_script_line(line, groups) for line in _kept(lines)]
+        if groups.edits:
+            raise ScriptFault(len(lines) + 1, "OpenGroup")
+        return cls(tuple(line for line in read if line is not None))
 
     def text(self) -> str:
         """The script as a file has it."""
-        return "".join(f"{line.session} {command_text(line.command)}\n" for line in self.lines)
+        return "".join(f"{line.session} {text}\n" for line in self.lines for text in command_lines(line.command))
 
     def run(
         self,
@@ -1200,22 +1228,64 @@ class Script:
             raise UnexpectedEnding(0, ending.output) from None
 
 
-def _script_line(line: _Line) -> ScriptLine:
+class _OpenGroups:
+    """The groups that are open while a script is read: the edits of each so far, by its session."""
+
+    def __init__(self) -> None:
+        self.edits: dict[int, list[Edit]] = {}
+
+    def may_have(self, session: int, word: str) -> bool:
+        """Whether the command may stand here: `ask` and `begin` outside a group, `end` inside one."""
+        return word not in ("ask", "begin") if session in self.edits else word != "end"
+
+    def take(self, line: int, session: int, edit: Edit) -> Optional[Command]:
+        """The command that an edit is, where it doesn't join a group."""
+        group = self.edits.get(session)
+        if group is None:
+            return edit
+        if len(group) == MOST_EDITS:
+            raise ScriptFault(line, "GroupTooLong")
+        group.append(edit)
+        return None
+
+    def end(self, line: int, session: int) -> Group:
+        if not self.edits[session]:
+            raise ScriptFault(line, "EmptyGroup")
+        return Group(tuple(self.edits.pop(session)))
+
+
+def _script_line(line: _Line, groups: _OpenGroups) -> Optional[ScriptLine]:
+    """The command that ends at the line, if one does."""
     session = _number(line.fields[0])
     if session is None or not 1 <= session <= LAST_SESSION:
         raise ScriptFault(line.number, "BadSession")
     word, fields = (line.fields[1], line.fields[2:]) if len(line.fields) > 1 else ("", [])
-    if not _has_command(word, len(fields)):
+    if not _has_command(word, len(fields)) or not groups.may_have(session, word):
         raise ScriptFault(line.number, "BadCommand")
-    if word == "ask":
-        return ScriptLine(session, _ask(line.number, fields))
+    command = _command(line.number, session, word, fields, groups)
+    return None if command is None else ScriptLine(session, command)
+
+
+def _command(
+    line: int, session: int, word: str, fields: Sequence[str], groups: _OpenGroups
+) -> Optional[Command]:
+    match word:
+        case "ask":
+            return _ask(line, fields)
+        case "begin":
+            groups.edits[session] = []
+            return None
+        case "end":
+            return groups.end(line, session)
     numbers = [_number(part) for part in fields]
     if None in numbers:
-        raise ScriptFault(line.number, "BadNumber")
-    return ScriptLine(session, _edit(word, numbers))
+        raise ScriptFault(line, "BadNumber")
+    return groups.take(line, session, _edit(word, numbers))
 
 
 def _has_command(word: str, count: int) -> bool:
+    if word in ("begin", "end"):
+        return count == 0
     if word == "ask":
         return count in (1, 2)
     if word == "rule":
@@ -1248,7 +1318,7 @@ CERTIFICATE_HEAD = re.compile("# session ([0-9]+) reply ([0-9]+) front [0-9]+")
 
 
 def _certificates_of(text: str) -> dict[_Place, str]:
-    """The certificate of each answer, by the session and the place of its line."""
+    """The certificate of each answer, by the session and the place of its command."""
     shown: dict[_Place, list[str]] = {}
     lines: list[str] = []
     for line in text.splitlines():
@@ -1272,24 +1342,35 @@ def _transcript_of(script: Script, output: str, shown: Mapping[_Place, str]) -> 
             front, *lines = piece.splitlines()
             outcome = _outcome_of(lines, shown.get(_Place(session, place)))
             replies.append(Reply(session, place, command, int(front), outcome))
-    return Transcript(tuple(replies), tuple(_entry_of(line) for line in edits.splitlines()))
+    return Transcript(tuple(replies), tuple(_entries_of(edits.splitlines())))
 
 
-def _entry_of(line: str) -> Entry:
-    session, word, *numbers = line.split(" ")
-    return Entry(int(session), _edit(word, [int(number) for number in numbers]))
+def _entries_of(lines: Iterable[str]) -> Iterator[Entry]:
+    """The entries of a history: an edit by itself, or those between `begin` and `end`."""
+    group: Optional[list[Edit]] = None
+    for line in lines:
+        session, word, *numbers = line.split(" ")
+        if word == "begin":
+            group = []
+        elif word == "end":
+            yield Entry(int(session), tuple(group))
+            group = None
+        else:
+            edit = _edit(word, [int(number) for number in numbers])
+            if group is None:
+                yield Entry(int(session), (edit,))
+            else:
+                group.append(edit)
 
 
 def _outcome_of(lines: Sequence[str], certificate: Optional[str]) -> Outcome:
     match lines[0].split(" "):
-        case ["OK"]:
-            return Taken()
-        case ["OK", "rule", number]:
-            return Taken(int(number))
-        case ["REFUSED", name]:
-            return Refused(name)
-        case ["REFUSED", name, number]:
-            return Refused(name, int(number))
+        case ["OK", *rules]:
+            return Taken(tuple(int(number) for number in rules[1::2]))
+        case ["REFUSED", name, *number, "edit", place]:
+            return Refused(name, *map(int, number), edit=int(place))
+        case ["REFUSED", name, *number]:
+            return Refused(name, *map(int, number))
         case ["LIMIT", name]:
             return Limited(name)
         case ["UNKNOWN"]:

@@ -233,6 +233,8 @@ class Case:
     def told_command(self, command: burgaouez.Command) -> str:
         """A command of a script in names."""
         match command:
+            case burgaouez.Group(edits):
+                return "; ".join(["begin", *map(self.told_command, edits), "end"])
             case burgaouez.Ask(task, query):
                 return f"ask {task}" if query is None else f"ask {task} {self._name_or_number(query)}"
             case burgaouez.DropRule(rule):
@@ -248,10 +250,11 @@ class Case:
         """A reply of a transcript in names: what was said, and the lines of what came back."""
         said = f"session {reply.session}, at {reply.at}: {self.told_command(reply.command)}"
         match reply.outcome:
-            case burgaouez.Taken(rule):
-                return (said, "OK" if rule is None else f"OK rule {rule}")
-            case burgaouez.Refused(name, number):
-                return (said, f"REFUSED {name}" + ("" if number is None else f" {self._name_or_number(number)}"))
+            case burgaouez.Taken(rules):
+                return (said, " ".join(["OK", *(f"rule {rule}" for rule in rules)]))
+            case burgaouez.Refused(name, number, edit):
+                told = "" if number is None else f" {self._name_or_number(number)}"
+                return (said, f"REFUSED {name}{told}" + ("" if edit is None else f" edit {edit}"))
             case burgaouez.Limited(name):
                 return (said, f"LIMIT {name}")
         if self.framework.kind is Kind.ATTACKS:

@@ -467,7 +467,7 @@ class ScriptTest(unittest.TestCase):
                 (1, 0, Sets(((),))),
                 (2, 0, Yes((1, 4))),
                 (3, 0, No((3,))),
-                (4, 1, burgaouez.Taken(rule=11)),
+                (4, 1, burgaouez.Taken((11,))),
                 (5, 1, Sets(((1, 4),))),
                 (6, 1, Yes()),
                 (7, 2, burgaouez.Taken()),
@@ -478,8 +478,8 @@ class ScriptTest(unittest.TestCase):
             ],
         )
         self.assertEqual(
-            [entry.edit for entry in transcript.history],
-            [burgaouez.AddRule(10), burgaouez.DropRule(11), burgaouez.DropRule(3)],
+            [entry.edits for entry in transcript.history],
+            [(burgaouez.AddRule(10),), (burgaouez.DropRule(11),), (burgaouez.DropRule(3),)],
         )
 
     def test_certificates_of_replies_are_accepted(self):
@@ -553,7 +553,7 @@ class ScriptTest(unittest.TestCase):
         self.assertEqual([reply.place for reply in transcript.of_session(2)], [1, 2])
         self.assertEqual(transcript.of_session(2)[1].outcome, Sets(((1, 2),)))
         self.assertIn(transcript.of_session(1)[0].outcome, (Sets(((1, 2),)), Sets(((1, 3),))))
-        self.assertEqual(transcript.history, (burgaouez.Entry(2, burgaouez.DropAttack(1, 2)),))
+        self.assertEqual(transcript.history, (burgaouez.Entry(2, (burgaouez.DropAttack(1, 2),)),))
 
     def test_faults(self):
         for text, line, name in (
@@ -571,17 +571,80 @@ class ScriptTest(unittest.TestCase):
             ("1 att 1 x", 1, "BadNumber"),
             ("1 ask DS-PR", 1, "BadQuery"),
             ("1 ask SE-GR 1", 1, "BadQuery"),
+            ("1 begin 1", 1, "BadCommand"),
+            ("1 end", 1, "BadCommand"),
+            ("1 begin\n2 end", 2, "BadCommand"),
+            ("1 begin\n1 begin", 2, "BadCommand"),
+            ("1 begin\n1 ask SE-GR", 2, "BadCommand"),
+            ("1 begin\n1 ask NOTASK", 2, "BadCommand"),
+            ("1 begin\n1 att 1 x", 2, "BadNumber"),
+            ("1 begin\n1 end", 2, "EmptyGroup"),
+            ("1 begin", 2, "OpenGroup"),
+            ("1 begin\n1 arg 4\n\n# none\n", 5, "OpenGroup"),
+            ("1 begin\n" + "1 arg 4\n" * 10_001, 10_002, "GroupTooLong"),
+            ("1 begin\n" + "1 arg 4\n" * 10_000 + "1 arg x", 10_002, "BadNumber"),
         ):
-            with self.subTest(text), self.assertRaises(burgaouez.ScriptFault) as caught:
+            with self.subTest(text[:40]), self.assertRaises(burgaouez.ScriptFault) as caught:
                 Script.from_text(text)
             self.assertEqual((caught.exception.line, caught.exception.name), (line, name))
 
     def test_text_reads_as_the_script(self):
         text = (
             "1 arg 4\n1 noarg 4\n2 att 1 2\n2 noatt 1 2\n3 asm 1 0\n3 noasm 1\n4 con 1 2\n4 addcon 1 3\n4 delcon 1 2\n"
-            "5 rule 3 1 2\n5 rule 3\n6 norule 7\n8 ask SE-GR\n8 ask DC-PR 1\n"
+            "5 rule 3 1 2\n5 rule 3\n6 norule 7\n8 ask SE-GR\n8 ask DC-PR 1\n7 begin\n7 rule 2\n7 end\n1 arg 5\n"
         )
         self.assertEqual(Script.from_text(text).text(), text)
+
+    def test_groups_among_lines_of_others(self):
+        """A group stands where it ends."""
+        drop, add = burgaouez.DropAttack(1, 2), burgaouez.AddAttack(2, 1)
+        text = "1 begin\n2 begin\n1 noatt 1 2\n3 ask SE-GR\n2 att 2 1\n1 att 2 1\n1 end\n2 end\n"
+        script = Script.from_text(text)
+        self.assertEqual(
+            [(line.session, line.command) for line in script.lines],
+            [(3, burgaouez.Ask("SE-GR")), (1, burgaouez.Group((drop, add))), (2, burgaouez.Group((add,)))],
+        )
+        longest = Script.from_text("1 begin\n" + "1 arg 4\n" * 10_000 + "1 end\n")
+        self.assertEqual([len(line.command.edits) for line in longest.lines], [10_000])
+
+    def test_groups_are_taken_whole(self):
+        """A rule and its exception come together: no reply is from the one without the other."""
+        edits = (burgaouez.AddRule(4, (1,)), burgaouez.AddRule(3), burgaouez.AddContrary(2, 3))
+        script = Script.of_commands([burgaouez.Group(edits), burgaouez.Ask("SE-GR"), burgaouez.DropRule(3)])
+        transcript = script.run(DRUG)
+        self.assertEqual(transcript.history, (burgaouez.Entry(1, edits), burgaouez.Entry(1, (burgaouez.DropRule(3),))))
+        self.assertEqual([reply.at for reply in transcript.replies], [1, 1, 2])
+        self.assertEqual(transcript.replies[0].outcome, burgaouez.Taken((3, 4)))
+        then = transcript.framework_at(DRUG, 1)
+        self.assertEqual(then.rules[-2:], (Rule(3, 4, (1,)), Rule(4, 3, ())))
+        self.assertEqual(then.contraries, {1: (3,), 2: (3, 4)})
+        self.assertEqual(check(then, "SE-GR", transcript.replies[1].outcome), Accepted())
+
+    def test_refused_groups_leave_nothing(self):
+        """The number that the first edit would have given is given again."""
+        rule, again = burgaouez.AddRule(3, (1,)), burgaouez.AddAssumption(1, 0)
+        group = burgaouez.Group((rule, again, burgaouez.DropRule(9)))
+        head = burgaouez.AddRule(1)
+        commands = [group, burgaouez.Group((again,)), again, head, burgaouez.Group((head,)), rule]
+        transcript = Script.of_commands(commands).run(DRUG)
+        refused = burgaouez.Refused
+        self.assertEqual(
+            [(reply.at, reply.outcome) for reply in transcript.replies],
+            [
+                (0, refused("AssumptionIsThere", edit=2)),
+                (0, refused("AssumptionIsThere", edit=1)),
+                (0, refused("AssumptionIsThere")),
+                (0, refused("NotFlat", 1)),
+                (0, refused("NotFlat", 1, edit=1)),
+                (1, burgaouez.Taken((3,))),
+            ],
+        )
+        self.assertEqual(transcript.history, (burgaouez.Entry(1, (rule,)),))
+
+    def test_a_group_that_is_none(self):
+        with self.assertRaises(burgaouez.ScriptFault) as caught:
+            Script.of_commands([burgaouez.Group(())]).run(THREE)
+        self.assertEqual((caught.exception.line, caught.exception.name), (2, "EmptyGroup"))
 
     def test_contraries_that_come_and_go(self):
         """Then 2 speaks against 1 by itself, and 1 against 2 by what follows from it; at last nothing against 1."""
@@ -594,7 +657,7 @@ class ScriptTest(unittest.TestCase):
 
     def test_rules_keep_their_numbers(self):
         transcript = Script.from_text("1 norule 2\n1 rule 3 1\n1 norule 1\n").run(DRUG)
-        self.assertEqual(transcript.replies[1].outcome, burgaouez.Taken(rule=3))
+        self.assertEqual(transcript.replies[1].outcome, burgaouez.Taken((3,)))
         self.assertEqual(transcript.framework_at(DRUG, 2).rules, (Rule(1, 3, (2,)), Rule(3, 3, (1,))))
         self.assertEqual(transcript.framework_at(DRUG, 3).rules, (Rule(3, 3, (1,)),))
 

@@ -215,7 +215,7 @@ class RoundTripTest(unittest.TestCase):
         self.assertEqual(twice.framework.names, {1: "x", 2: "a2", 3: "a3"})
 
     def test_examples_are_the_files_with_numbers(self):
-        for name in ("hearing.af", "inheritance.af", "anticoagulant.aba", "photograph.aba"):
+        for name in ("hearing.af", "inheritance.af", "anticoagulant.aba", "photograph.aba", "fines.aba"):
             with self.subTest(name):
                 case = Case.from_file(EXAMPLES / Path(name).with_suffix(".case"))
                 framework = Framework.from_file(EXAMPLES / name)
@@ -303,6 +303,18 @@ class LiveTest(unittest.TestCase):
                 ("session 1, at 2: delcon given wish", "OK"),
                 ("session 1, at 2: ask SE-GR", "the empty set, and so allergy"),
                 ("session 1, at 2: delcon given wish", "REFUSED NoSuchContrary"),
+            ],
+        )
+
+    def test_groups_in_names(self):
+        case = Case.from_text(DRUG)
+        script = case.script("1 begin\n1 norule 1\n1 rule unsafe\n1 end\n1 begin\n1 norule 9\n1 end\n")
+        transcript = script.run(case.framework, certify=False)
+        self.assertEqual(
+            [case.told_reply(reply, transcript) for reply in transcript.replies],
+            [
+                ("session 1, at 1: begin; norule 1; rule unsafe; end", "OK rule 4"),
+                ("session 1, at 1: begin; norule 9; end", "REFUSED NoSuchRule 9 edit 1"),
             ],
         )
 

@@ -30,7 +30,7 @@ use Rattle.argue_commands.proofs.CheckLemmas.{framework_sound}
 
 pub script_sound : (bytes : List ℕ) (s : Script) → IsScript bytes s → IsSoundIn role.Script bytes
 script_sound bytes s reads line (cause.Script c) first =
-    (script_is_faultless bytes s.lines reads).none line c first.stands
+    (script_is_faultless bytes s reads).none line c first.stands
 script_sound bytes s reads line (cause.Framework c) first = first
 script_sound bytes s reads line (cause.Answer c) first = first
 script_sound bytes s reads line (cause.Certificate c) first = first

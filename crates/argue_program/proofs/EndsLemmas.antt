@@ -518,7 +518,7 @@ module _ (found : Reading) (words : List (List ℕ)) (texts : LiveTexts) (budget
       let reads : IsScript bytes lives.runs.script =
       subst (λ bs. IsScript bs lives.runs.script) (bytes_at (found.holds texts.script) bytes of.bytes asks.known of.has)
       of.reads in
-      (script_is_faultless bytes lives.runs.script.lines reads).none faulty.0 faulty.1 faulty.2
+      (script_is_faultless bytes lives.runs.script reads).none faulty.0 faulty.1 faulty.2
 
   no_long_script : (end : Status) → EndsLive found.holds budget texts kept end → MAX_INPUT < length bytes → ⊥
   no_long_script end lives long =

@@ -54,7 +54,8 @@ pub record Promises (words : List (List ℕ)) (seen : Seen) (ended : Ended) : Ty
   -- a query that is done has written a right answer, and an accepted certificate where a file is named
   pub solved : (texts : SolveTexts) → IsSolveQuery words texts → ended.status ≡ Done → WritesAnswer seen texts
   -- ---- the same for scripts and large inputs
-  -- a transcript that is kept is that of the words' script on the framework in its file, or of the words' large input
+  -- a transcript that is kept is that of the words' script on the framework in its file, or of the words' large input:
+  -- each of its replies is about the framework after a prefix of the committed groups of edits
   pub transcript : (one : ScriptTranscript) → ended.kept.script ≡ Some one
       → AsksTranscript words seen.files.holds one
   -- a script's run that is done has written that transcript, and the certificates of all its answers where a file is

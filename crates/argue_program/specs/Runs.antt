@@ -51,11 +51,10 @@ use Rattle.bench_runs.specs.declared.run.BenchRun.{BenchRun}
 use Rattle.bench_runs.specs.declared.run.TheConstants.{BENCH_BUDGET}
 use Rattle.bench_runs.specs.Transcripts.{IsTranscriptOf}
 use Rattle.bench_runs.specs.declared.transcript.ScriptTranscript.{ScriptTranscript}
-use Rattle.script_text.specs.ScriptFaults.{StandsAt}
+use Rattle.script_text.specs.ScriptFaults.{Stands}
 use Rattle.script_text.specs.ScriptText.{IsScript}
 use Rattle.script_text.specs.declared.fault.ScriptCause.{ScriptCause}
 use Rattle.script_text.specs.declared.script.Script.{Script}
-use Rattle.num_text.specs.Lines.{kept_lines}
 use Rattle.oracle_face.specs.declared.face.Pending.{Pending}
 use Rattle.oracle_face.specs.Growing.{IsFurther}
 use Rattle.oracle_face.specs.Logs.{IsNew, is_unit, no_step, units_of, working}
@@ -330,7 +329,7 @@ IsLiveEnd f script budget kept _ = ⊥
 
 -- some cause stands at a line of a script's bytes
 abbrev pub IsFaultyScript : List ℕ → Type 0
-IsFaultyScript bytes = (line : ℕ) × (cause : ScriptCause) × StandsAt (kept_lines bytes) line cause
+IsFaultyScript bytes = (line : ℕ) × (cause : ScriptCause) × Stands bytes line cause
 
 -- the words ask for a run of the script with these bytes on a framework that its file reads as, and no read of either
 -- fails: it is served, or no fault is counted

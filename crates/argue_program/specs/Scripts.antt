@@ -9,7 +9,8 @@ use Rattle.semantics.specs.Frameworks.{Framework}
 use Rattle.session_replies.specs.Replies.{transcript_of}
 use Rattle.argue_commands.specs.Inputs.{IsFrameworkOf, IsScriptOf}
 
--- the sessions of the script that the one file's bytes read as come to this on the framework that the other's read as
+-- the sessions of the script that the one file's bytes read as come to this on the framework that the other's read as:
+-- each reply is about the framework after a prefix of the committed groups of edits (`IsTranscriptOf`)
 pub record RunsScript (holds : List ℕ → KnownFile) (budget : ℕ) (texts : LiveTexts) (transcript : ScriptTranscript)
     : Type 0 where
   pub framework : Framework

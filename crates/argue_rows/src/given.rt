@@ -27,6 +27,30 @@ fn number_of(word: Option<&str>) -> u32 {
     }
 }
 
+/// How often a text stands for a `*`, and the text.
+#[derive(Clone, Copy)]
+pub struct Times<'a> {
+    pub count: u32,
+    pub text: &'a str,
+}
+
+/// A `*` stands for itself.
+const ONCE: Times<'static> = Times {
+    count: 1,
+    text: "*",
+};
+
+/// The repetition that a number and a text name.
+fn times_of(words: &str) -> Times<'_> {
+    match words.split_once(' ') {
+        Some((count, text)) => Times {
+            count: number_of(Some(count)),
+            text,
+        },
+        None => ONCE,
+    }
+}
+
 /// The faults that three numbers name.
 fn faults_of(words: &str) -> Faults {
     let mut words = words.split_whitespace();
@@ -47,6 +71,8 @@ pub struct Given<'a> {
     pub swap: Option<(&'a str, &'a str)>,
     /// Which calls of the next row fail.
     pub faults: Faults,
+    /// What a `*` in the next row and its answer stands for.
+    pub times: Times<'a>,
 }
 
 impl<'a> Given<'a> {
@@ -57,6 +83,7 @@ impl<'a> Given<'a> {
             certificate: "",
             swap: None,
             faults: NO_FAULTS,
+            times: ONCE,
         }
     }
 
@@ -70,6 +97,7 @@ impl<'a> Given<'a> {
             "swap" => self.swap = rest.split_once(" -> "),
             "drop" => self.swap = Some((rest, "")),
             "fail" => self.faults = faults_of(rest),
+            "times" => self.times = times_of(rest),
             "#" => {}
             _ => return line.is_empty(),
         }
@@ -80,6 +108,13 @@ impl<'a> Given<'a> {
     pub fn end_row(&mut self) {
         self.swap = None;
         self.faults = NO_FAULTS;
+        self.times = ONCE;
+    }
+
+    /// The text with what each `*` stands for.
+    pub fn whole(&self, alloc: Global, text: &str) -> Result<String, AllocError> {
+        let repeated = self.times.text.repeat(alloc, self.times.count as usize)?;
+        text.replace(alloc, "*", repeated.as_str())
     }
 
     /// The next row's certificate.

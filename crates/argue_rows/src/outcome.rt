@@ -92,7 +92,12 @@ pub fn run<R: Threads + Wait + Sync>(
         "a",
         with_ends(alloc, given.framework)?.as_bytes(),
     )?;
-    hold(&mut files, "b", with_ends(alloc, answer)?.as_bytes())?;
+    let answer = given.whole(alloc, answer)?;
+    hold(
+        &mut files,
+        "b",
+        with_ends(alloc, answer.as_str())?.as_bytes(),
+    )?;
     hold(&mut files, "c", certificate)?;
     let mut words = Vec::new(alloc);
     for word in line.split_whitespace() {

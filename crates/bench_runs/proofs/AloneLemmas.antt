@@ -1,7 +1,8 @@
 -- What one session alone is told is determined by its lines and the framework.
 use Rattle.std.proofs.Common.{arith, Bool, true, false, ◌≡◌, ◌⊎◌, ⊎_elim, ℕ, zero, suc, ◌==◌, ◌+◌, ◌<◌, ◌≤◌, List}
-use Rattle.std.proofs.Common.{[], ◌∷◌, ◌++◌, cond, nat_lt, refl, sym, ap, subst, ◌∙◌}
+use Rattle.std.proofs.Common.{[], ◌∷◌, ◌++◌, cond, nat_le, refl, sym, ap, subst, ◌∙◌}
 use Rattle.std.specs.Prelude.{All, Contains, Err, Ok, Result, length, slice_index_or}
+use Rattle.std.proofs.lemmas.Bool.{le-leb, lt-leb}
 use Rattle.std.proofs.lemmas.Bool.Decides.{nat_tests}
 use Rattle.std.proofs.lemmas.List.{append-nil, get_or_append_left, length-append}
 use Rattle.std.proofs.lemmas.List.Elements.{All-contains, All-weaker}
@@ -13,11 +14,10 @@ use Rattle.iccma_tasks.specs.Tasks.{Asked}
 use Rattle.edit_rules.specs.declared.edit.Edit.{Edit}
 use Rattle.edit_rules.specs.declared.effect.Effect.{Effect}
 use Rattle.edit_rules.specs.declared.effect.EditFault.{EditFault}
-use Rattle.edit_rules.specs.Edits.{edit_outcome}
-use Rattle.edit_rules.specs.Replay.{after_edit}
+use Rattle.edit_rules.specs.Groups.{group_told}
 use Rattle.turn_lock.specs.Turns.{entries_of}
 use Rattle.edit_history.specs.declared.entry.HistoryEntry.{HistoryEntry}
-use Rattle.edit_history.specs.Entries.{entries_in, framework_after, session_of}
+use Rattle.edit_history.specs.Entries.{edit_count, entries_in, framework_after, session_of}
 use Rattle.edit_history.specs.Hubs.{GainsOthers}
 use Rattle.oracle_face.specs.Logs.{OracleLog}
 use Rattle.script_text.specs.declared.script.ScriptCommand.{ScriptCommand}
@@ -26,7 +26,7 @@ use Rattle.script_text.specs.declared.script.Script.{Script}
 use Rattle.script_text.specs.declared.script.ScriptLine.{ScriptLine}
 use Rattle.session_core.specs.declared.kept.Kept.{Kept}
 use Rattle.session_core.specs.declared.kept.KeptAnswer.{KeptAnswer}
-use Rattle.session_core.specs.Replies.{EditSays, QuerySays}
+use Rattle.session_core.specs.Replies.{EditSays, QuerySays, place_told}
 use Rattle.session_replies.specs.declared.reply.Body.{Body}
 use Rattle.session_replies.specs.declared.reply.Body.TheVariants.{Done, EditRefused, Full, Answered, QueryRefused}
 use Rattle.session_replies.specs.declared.reply.Body.TheVariants.{Unknown, TooMany, LogFull}
@@ -71,30 +71,31 @@ alone_same s before after own gained =
     let few = count_by-le-length (λ (e : HistoryEntry). session_of e == s) before in
     none_more before gained.longer.0 after gained.longer.1 (omega (arith, same, kept, few))
 
--- ---- an edit
+-- ---- edits
 
-abbrev body_by : Result (Framework × Effect) EditFault → Body
-body_by (Ok done) = Done done.1
-body_by (Err fault) = EditRefused fault
+-- what a group is told where nothing else is
+abbrev body_by : Bool → Result (List Effect) (ℕ × EditFault) → Body
+body_by grouped (Ok effects) = Done effects
+body_by grouped (Err refused) = EditRefused (place_told grouped refused.0) refused.1
 
--- what an edit is told where the history has so many entries
-abbrev body_for : ℕ → ℕ → Result (Framework × Effect) EditFault → Body
-body_for limit count outcome = cond (nat_lt count limit) (body_by outcome) Full
+-- what a group of edits is told where the history has so many edits with it
+abbrev body_for : Bool → ℕ → ℕ → Result (List Effect) (ℕ × EditFault) → Body
+body_for grouped limit count told = cond (nat_le count limit) (body_by grouped told) Full
 
-with_room : (limit count : ℕ) (outcome : Result (Framework × Effect) EditFault) (body : Body) → count < limit
-    → body ≡ body_by outcome → body ≡ body_for limit count outcome
-with_room limit count outcome body low is =
-    let room : nat_lt count limit ≡ true = grind (arith, nat_tests) in rw room is
+with_room : (grouped : Bool) (limit count : ℕ) (told : Result (List Effect) (ℕ × EditFault)) (body : Body)
+    → count ≤ limit → body ≡ body_by grouped told → body ≡ body_for grouped limit count told
+with_room grouped limit count told body low is =
+    let room : nat_le count limit ≡ true = le-leb count limit low in rw room is
 
-without_room : (limit count : ℕ) (outcome : Result (Framework × Effect) EditFault) → count ≡ limit
-    → Full ≡ body_for limit count outcome
-without_room limit count outcome full =
-    let room : nat_lt count limit ≡ false = grind (arith, nat_tests) in rw room refl
+without_room : (grouped : Bool) (limit count : ℕ) (told : Result (List Effect) (ℕ × EditFault)) → limit < count
+    → Full ≡ body_for grouped limit count told
+without_room grouped limit count told full =
+    let room : nat_le count limit ≡ false = lt-leb count limit full in rw room refl
 
 -- what a session alone is told
 abbrev TellsOf : Framework → ℕ → List HistoryEntry → ScriptCommand → Body → Type 0
-TellsOf f limit seen (change_by edit) body =
-    body ≡ body_for limit (length seen) (edit_outcome (framework_after f seen) edit)
+TellsOf f limit seen (change_by edits grouped) body =
+    body ≡ body_for grouped limit (edit_count seen + length edits) (group_told (framework_after f seen) edits)
 TellsOf f limit seen (Ask asked) body = (log : OracleLog) × QuerySays (framework_after f seen) asked log body
 
 record DoesAlone (f : Framework) (limit s : ℕ) (seen : List HistoryEntry) (command : ScriptCommand) (reply : Reply)
@@ -107,57 +108,61 @@ record DoesAlone (f : Framework) (limit s : ℕ) (seen : List HistoryEntry) (com
 stays_alone : (s : ℕ) (seen now : List HistoryEntry) → AreOwn s now → GainsOthers s seen now → now ≡ seen ++ []
 stays_alone s seen now own gained = alone_same s seen now own gained ∙ sym (append-nil seen)
 
-edit_alone : (f : Framework) (limit s : ℕ) (edit : Edit) (seen now : List HistoryEntry) (front : ℕ) (body : Body)
-    → AreOwn s now → front ≡ length now → EditSays limit f s edit seen now body
-    → DoesAlone f limit s seen (change_by edit) (record { front = front; body = body }) now
-edit_alone f limit s edit seen now front (Done effect) own at says =
+edit_alone : (grouped : Bool) (f : Framework) (limit s : ℕ) (edits : List Edit) (seen now : List HistoryEntry) (front : ℕ)
+    (body : Body) → AreOwn s now → front ≡ length now → EditSays grouped limit f s edits seen now body
+    → DoesAlone f limit s seen (change_by edits grouped) (record { front = front; body = body }) now
+edit_alone grouped f limit s edits seen now front (Done effects) own at says =
     let found = says.found in
-    let entry = entry_by s edit in
+    let entry = entry_by s edits in
     let same : found ≡ seen =
     alone_same s seen found (own_first s found now (entry ∷ [], sym says.added.longer) own) says.gained in
-    let room : length seen < limit = subst (λ l. length l < limit) same says.added.room in
-    let taken : edit_outcome (framework_after f seen) edit ≡ Ok (after_edit (framework_after f seen) edit, effect) =
-    subst (λ l. edit_outcome (framework_after f l) edit ≡ Ok (after_edit (framework_after f l) edit, effect)) same
-    says.added.taken in
+    let room : edit_count seen + length edits ≤ limit =
+    subst (λ l. edit_count l + length edits ≤ limit) same says.added.room in
+    let taken : group_told (framework_after f seen) edits ≡ Ok effects =
+    subst (λ l. group_told (framework_after f l) edits ≡ Ok effects) same says.added.taken in
     record {
       front = at;
       now_is = says.added.longer ∙ ap (λ l. l ++ entry ∷ []) same;
-      tells = with_room limit (length seen) (edit_outcome (framework_after f seen) edit) (Done effect) room
-          (sym (ap body_by taken));
+      tells = with_room grouped limit (edit_count seen + length edits) (group_told (framework_after f seen) edits)
+          (Done effects) room (sym (ap (body_by grouped) taken));
     }
-edit_alone f limit s edit seen now front (EditRefused fault) own at says =
+edit_alone grouped f limit s edits seen now front (EditRefused told fault) own at says =
     let same = alone_same s seen now own says.0 in
-    let room : length seen < limit = subst (λ l. length l < limit) same says.1 in
-    let refused : edit_outcome (framework_after f seen) edit ≡ Err fault =
-    subst (λ l. edit_outcome (framework_after f l) edit ≡ Err fault) same says.2 in
+    let room : edit_count seen + length edits ≤ limit =
+    subst (λ l. edit_count l + length edits ≤ limit) same says.1 in
+    let refused : group_told (framework_after f seen) edits ≡ Err (says.2.place, fault) =
+    subst (λ l. group_told (framework_after f l) edits ≡ Err (says.2.place, fault)) same says.2.refused in
     record {
       front = at;
       now_is = stays_alone s seen now own says.0;
-      tells = with_room limit (length seen) (edit_outcome (framework_after f seen) edit) (EditRefused fault) room
-          (sym (ap body_by refused));
+      tells = with_room grouped limit (edit_count seen + length edits) (group_told (framework_after f seen) edits)
+          (EditRefused told fault) room
+          (ap (λ place. EditRefused place fault) says.2.is_told ∙ sym (ap (body_by grouped) refused));
     }
-edit_alone f limit s edit seen now front Full own at says =
+edit_alone grouped f limit s edits seen now front Full own at says =
     let same = alone_same s seen now own says.0 in
-    let full : length seen ≡ limit = subst (λ l. length l ≡ limit) same says.1 in
+    let full : limit < edit_count seen + length edits =
+    subst (λ l. limit < edit_count l + length edits) same says.1 in
     record {
       front = at;
       now_is = stays_alone s seen now own says.0;
-      tells = without_room limit (length seen) (edit_outcome (framework_after f seen) edit) full;
+      tells = without_room grouped limit (edit_count seen + length edits) (group_told (framework_after f seen) edits)
+          full;
     }
-edit_alone f limit s edit seen now front (Answered answer certificate) own at says = absurd says
-edit_alone f limit s edit seen now front (QueryRefused fault) own at says = absurd says
-edit_alone f limit s edit seen now front (Unknown count) own at says = absurd says
-edit_alone f limit s edit seen now front TooMany own at says = absurd says
-edit_alone f limit s edit seen now front LogFull own at says = absurd says
+edit_alone grouped f limit s edits seen now front (Answered answer certificate) own at says = absurd says
+edit_alone grouped f limit s edits seen now front (QueryRefused fault) own at says = absurd says
+edit_alone grouped f limit s edits seen now front (Unknown count) own at says = absurd says
+edit_alone grouped f limit s edits seen now front TooMany own at says = absurd says
+edit_alone grouped f limit s edits seen now front LogFull own at says = absurd says
 
 -- ---- a line
 
 does_alone : (f : Framework) (limit budget s : ℕ) (seen : List HistoryEntry) (command : ScriptCommand) (reply : Reply)
     (old new : Stand) → old.seen ≡ seen → AreOwn s new.seen → DoesCommand f limit budget s command old reply new
     → DoesAlone f limit s seen command reply new.seen
-does_alone f limit budget s seen (change_by edit) reply old new from own does =
-    edit_alone f limit s edit seen new.seen reply.front reply.body own does.told.front
-    (subst (λ l. EditSays limit f s edit l new.seen reply.body) from does.told.says)
+does_alone f limit budget s seen (change_by edits grouped) reply old new from own does =
+    edit_alone grouped f limit s edits seen new.seen reply.front reply.body own does.told.front
+    (subst (λ l. EditSays grouped limit f s edits l new.seen reply.body) from does.told.says)
 does_alone f limit budget s seen (Ask asked) reply old new from own does =
     let gained = subst (λ l. GainsOthers s l new.seen) from does.gained in
     record {
@@ -184,11 +189,11 @@ joined : (f : Framework) (limit s : ℕ) (seen one_now two_now : List HistoryEnt
     (one two : Reply)
     → DoesAlone f limit s seen command one one_now → DoesAlone f limit s seen command two two_now
     → AreJoined f s seen command one two
-joined f limit s seen one_now two_now (change_by edit) one two h k =
+joined f limit s seen one_now two_now (change_by edits grouped) one two h k =
     let body : one.body ≡ two.body = h.tells ∙ sym k.tells in
-    let made = ap (made_by s (change_by edit)) body in
-    let front = fronts_same s seen one_now two_now (made_by s (change_by edit) one.body)
-    (made_by s (change_by edit) two.body) one.front two.front h.front k.front h.now_is k.now_is made in
+    let made = ap (made_by s (change_by edits grouped)) body in
+    let front = fronts_same s seen one_now two_now (made_by s (change_by edits grouped) one.body)
+    (made_by s (change_by edits grouped) two.body) one.front two.front h.front k.front h.now_is k.now_is made in
     record { alike = λ i. record { front = front i; body = body i }; made = made }
 joined f limit s seen one_now two_now (Ask asked) one two h k = record {
   alike = record {

@@ -11,29 +11,32 @@ use Rattle.bench_runs.specs.Checking.{IsCheckedTo, MayCheck}
 use Rattle.bench_runs.specs.Summaries.{AreRejected, AreRejections, IsRejection, is_told_query, queries_told}
 use Rattle.std.proofs.lemmas.List.{drop_all, drop_more, get_or-map, length-map, map-append, take_more}
 use Rattle.semantics.specs.Frameworks.{Framework}
-use Rattle.edit_rules.specs.declared.edit.Edit.{Edit}
+use Rattle.edit_rules.specs.declared.effect.Effect.{Effect}
 use Rattle.edit_rules.specs.Replay.{after_edit, replay}
+use Rattle.edit_rules.proofs.GroupLemmas.{replay_both}
 use Rattle.edit_history.specs.declared.entry.Change.{Change}
 use Rattle.edit_history.specs.declared.entry.HistoryEntry.{HistoryEntry}
-use Rattle.edit_history.specs.Entries.{entries_in, entry_of, framework_after}
-use Rattle.bench_runs.proofs.TakenLemmas.{edits_of, replay_on}
+use Rattle.edit_history.specs.Entries.{edits_in, entries_in, framework_after}
+use Rattle.session_core.proofs.FollowingLemmas.{next_group}
 
 -- the framework behind one entry more
 pub led_next : (f g h : Framework) (history : List Change) (i : ℕ) (d : Change) → i < length history
-    → g ≡ framework_after f (take i (entries_in history)) → h ≡ after_edit g (get_or history i d).effect.edit
+    → g ≡ framework_after f (take i (entries_in history)) → h ≡ replay g (edits_in (get_or history i d).effects)
     → h ≡ framework_after f (take (i + 1) (entries_in history))
 led_next f g h history i d lt before after =
-    let change = get_or history i d in
-    let one = entry_of change in
-    let long = length-map history entry_of in
-    let here : get_or (entries_in history) i one ≡ one = get_or-map entry_of history i d one lt in
-    let more : take (i + 1) (entries_in history) ≡ take i (entries_in history) ++ one ∷ [] =
-    take_more (entries_in history) i one (omega (arith, long, lt))
-    ∙ ap (λ e. take i (entries_in history) ++ e ∷ []) here in
-    after ∙ ap (λ k. after_edit k change.effect.edit) before
-    ∙ sym (ap (framework_after f) more
-    ∙ ap (replay f) (map-append (λ (e : HistoryEntry). e.edit) (take i (entries_in history)) (one ∷ []))
-    ∙ replay_on f (edits_of (take i (entries_in history))) (change.effect.edit ∷ []))
+    let next : i + 1 ≡ suc i = omega arith in
+    after ∙ ap (λ k. replay k (edits_in (get_or history i d).effects)) before
+    ∙ sym (ap (λ n. framework_after f (take n (entries_in history))) next ∙ next_group f i history d lt)
+
+-- the framework behind one edit of a group more
+pub redone_next : (g h : Framework) (effects : List Effect) (i : ℕ) (d : Effect) → i < length effects
+    → h ≡ after_edit (replay g (edits_in (take i effects))) (get_or effects i d).edit
+    → h ≡ replay g (edits_in (take (i + 1) effects))
+redone_next g h effects i d lt after =
+    after
+    ∙ sym (ap (λ es. replay g (edits_in es)) (take_more effects i d lt)
+    ∙ ap (replay g) (map-append (λ (e : Effect). e.edit) (take i effects) (get_or effects i d ∷ []))
+    ∙ replay_both g (edits_in (take i effects)) ((get_or effects i d).edit ∷ []))
 
 -- ---- replies, one by one
 

@@ -1,10 +1,11 @@
 -- Each session of a transcript is a run of the core.
-use Rattle.std.proofs.Common.{arith, ◌≡◌, ℕ, zero, suc, ◌+◌, ◌==◌, ◌<◌, ◌≤◌, List, [], ◌∷◌, ◌++◌, refl, sym, ap, subst}
-use Rattle.std.proofs.Common.{◌∙◌, length, take, get_or, Ok}
-use Rattle.std.specs.Prelude.{Contains, Option, Some, option_map, slice_get, slice_index_or}
-use Rattle.std.proofs.lemmas.Bool.{cond_both, eqb-true}
+use Rattle.std.proofs.Common.{arith, ◌≡◌, ℕ, zero, suc, ◌+◌, ◌-◌, ◌==◌, ◌<◌, ◌≤◌, List, [], ◌∷◌, ◌++◌, refl, sym, ap, subst}
+use Rattle.std.proofs.Common.{◌∙◌, length, take, get_or, Bool, Ok, ⊎_elim}
+use Rattle.std.specs.Prelude.{All, Contains, Option, Some, option_map, slice_get, slice_index_or}
+use Rattle.std.proofs.lemmas.Bool.{cond_both, eq-eqb, eqb-true}
 use Rattle.std.proofs.lemmas.List.{append-nil, append_assoc, get_or-map, length-append, length-map}
-use Rattle.std.proofs.lemmas.List.Elements.{Contains-append_left, Contains-append_right, Contains-push, filter-append}
+use Rattle.std.proofs.lemmas.List.Elements.{Contains-append_cases, Contains-append_left, Contains-append_right}
+use Rattle.std.proofs.lemmas.List.Elements.{Contains-get_or, Contains-push, filter-append}
 use Rattle.std.proofs.lemmas.Option.{slice_get-get_or}
 use Rattle.std.proofs.Math.Seq.{take-append_seam}
 use mathlib.Core.List.{IsPrefix}
@@ -12,15 +13,19 @@ use Rattle.semantics.specs.Frameworks.{Framework}
 use Rattle.iccma_tasks.specs.Tasks.{Asked}
 use Rattle.edit_rules.specs.declared.edit.Edit.{Edit}
 use Rattle.edit_rules.specs.declared.effect.Effect.{Effect}
-use Rattle.edit_rules.specs.Replay.{IsTaken, after_edit}
+use Rattle.edit_rules.specs.Groups.{group_told}
+use Rattle.lists.proofs.Filters.{Contains-filter}
+use Rattle.lists.proofs.Membership.{Contains-nil}
 use Rattle.turn_lock.specs.Turns.{entries_of}
 use Rattle.edit_history.specs.declared.entry.Change.{Change}
 use Rattle.edit_history.specs.declared.entry.HistoryEntry.{HistoryEntry}
-use Rattle.edit_history.specs.Entries.{AreDone, entries_in, entry_of as of_change, framework_after, session_of}
+use Rattle.edit_history.specs.Entries.{AreDone, IsGroup, edit_count, edits_in, edits_of, entries_in}
+use Rattle.edit_history.specs.Entries.{entry_of as of_change, framework_after, session_of}
 use Rattle.edit_history.specs.Hubs.{GainsOthers}
 use Rattle.oracle_face.specs.declared.entry.Entry.{Entry as PoolEntry}
 use Rattle.oracle_face.specs.Logs.{OracleLog}
 use Rattle.clause_pool.specs.Pools.{AreInRow, entry_of, index_of}
+use Rattle.script_text.specs.declared.script.Script.{Script}
 use Rattle.script_text.specs.declared.script.ScriptCommand.{ScriptCommand}
 use Rattle.script_text.specs.declared.script.ScriptCommand.TheVariants.{Edit as change_by, Ask}
 use Rattle.script_text.specs.declared.script.ScriptLine.{ScriptLine}
@@ -36,15 +41,20 @@ use Rattle.session_core.specs.EditRuns.{added_by}
 use Rattle.session_core.specs.Replies.{EditSays}
 use Rattle.session_core.specs.Sessions.{tokens_of}
 use Rattle.clause_pool.specs.declared.pooled.Token.{Token}
+use Rattle.session_core.specs.declared.kept.Kept.{Kept}
 use Rattle.session_core.specs.declared.kept.KeptAnswer.{KeptAnswer}
 use Rattle.session_core.proofs.AskRuns.{queries_run}
 use Rattle.session_core.proofs.EditRunLemmas.{edits_run, with_room}
-use Rattle.session_core.proofs.FollowingLemmas.{taken_at}
+use Rattle.session_core.proofs.FollowingLemmas.{edits_joined, group_at}
 use Rattle.hinted_log.specs.declared.log.TheConstants.{MAX_STEPS}
 use Rattle.bench_runs.specs.CoreWalks.{RunsLine, RunsLines, SessionsAreRuns, begun, commits_of}
-use Rattle.bench_runs.specs.Served.{made_by}
+use Rattle.bench_runs.specs.Served.{entries_made, lines_of, made_by}
+use Rattle.bench_runs.specs.Transcripts.{IsTranscriptOf}
+use Rattle.bench_runs.specs.declared.transcript.ScriptTranscript.{ScriptTranscript}
 use Rattle.bench_runs.specs.declared.script_run.TheConstants.{MAX_HISTORY}
 use Rattle.bench_runs.specs.Walks.{DoesCommand, DoesEdit, DoesQuery, Stand, Walks, at_start}
+use Rattle.bench_runs.proofs.ListLemmas.{some_item}
+use Rattle.bench_runs.proofs.MadeLemmas.{made_here}
 use Rattle.bench_runs.proofs.ServedLemmas.{prefix_on, prefix_short}
 use Rattle.bench_runs.proofs.ToldLemmas.{done_by}
 
@@ -74,11 +84,12 @@ turn_answered core s entries n =
 
 -- ---- entries that come
 
--- the entries may come behind those before them: there is room for each, and it is taken
+-- the entries may come behind those before them: each is a group, there is room for it, and it is taken
 abbrev AreComing : Framework → ℕ → List HistoryEntry → List HistoryEntry → Type 0
 AreComing f limit before [] = Unit {0}
 AreComing f limit before (e ∷ more) =
-    (length before < limit) × ((effect : Effect) × IsTaken (framework_after f before) e.edit effect)
+    IsGroup e.edits × (edit_count before + length e.edits ≤ limit)
+    × ((effects : List Effect) × (group_told (framework_after f before) e.edits ≡ Ok effects))
     × AreComing f limit (before ++ e ∷ []) more
 
 record IsCommittedTo (core end : Core) (more : List HistoryEntry) : Type 0 where
@@ -104,16 +115,15 @@ commits_run [] core are = (
   },
 )
 commits_run (e ∷ more) core are =
-    let g = framework_after core.opening core.history in
     let mid = after_turn core e.session (e ∷ []) in
-    let made : committed core e.session e.edit ≡ e ∷ [] =
-    with_room core e.session e.edit (Ok (after_edit g e.edit, are.1.0)) are.0 are.1.1 in
-    let rest = commits_run more mid are.2 in
+    let made : committed core e.session e.edits ≡ e ∷ [] =
+    with_room core e.session e.edits (Ok are.2.0) are.1 are.2.1 in
+    let rest = commits_run more mid are.3 in
     let to = rest.2 in (
       rest.0,
-      subst (λ entries. Runs core (commit e.session e.edit ∷ commits_of more) (entries ++ more) rest.0) made
-          (goes core mid rest.0 (commit e.session e.edit) (commits_of more) more
-          (ap (after_turn core e.session) (sym made)) rest.1),
+      subst (λ entries. Runs core (commit e.session e.edits ∷ commits_of more) (entries ++ more) rest.0) made
+          (goes core mid rest.0 (commit e.session e.edits) (commits_of more) more
+          (are.0, ap (after_turn core e.session) (sym made)) rest.1),
       record {
         opening = to.opening;
         limit = to.limit;
@@ -134,30 +144,35 @@ some_change [] lt = absurd (omega (arith, lt))
 some_change (c ∷ changes) lt = c
 
 -- what stands in a history came so
-are_coming : (f : Framework) (limit : ℕ) (changes : List Change) → AreDone f changes → length changes ≤ limit
+are_coming : (f : Framework) (limit : ℕ) (changes : List Change) → AreDone f changes
+    → edit_count (entries_in changes) ≤ limit → All (λ (e : HistoryEntry). IsGroup e.edits) (entries_in changes)
     → (before more rest : List HistoryEntry) → before ++ (more ++ rest) ≡ entries_in changes
     → AreComing f limit before more
-are_coming f limit changes done few before [] rest e = tt
-are_coming f limit changes done few before (x ∷ more) rest e =
+are_coming f limit changes done few groups before [] rest e = tt
+are_coming f limit changes done few groups before (x ∷ more) rest e =
     let n = length before in
     let within : n < length changes =
     omega (arith, ap length e, length-append before (x ∷ (more ++ rest)), length-map changes of_change) in
     let d = some_change changes (omega (arith, within)) in
-    let taken = taken_at f n changes d done within in
+    let c = get_or changes n d in
     let front : take n (entries_in changes) ≡ before =
     ap (take n) (sym e) ∙ take-append_seam before (x ∷ (more ++ rest)) in
     let here : get_or (entries_in changes) n x ≡ x = ap (λ l. get_or l n x) (sym e) ∙ seam before x (more ++ rest) in
-    let there : get_or (entries_in changes) n x ≡ of_change (get_or changes n d) =
-    get_or-map of_change changes n d x within in
-    let same : (get_or changes n d).effect.edit ≡ x.edit = ap (λ (y : HistoryEntry). y.edit) (sym there ∙ here) in
-    let effect = (get_or changes n d).effect in (
-      omega (arith, within, few),
+    let there : get_or (entries_in changes) n x ≡ of_change c = get_or-map of_change changes n d x within in
+    let same : edits_in c.effects ≡ x.edits = ap (λ (y : HistoryEntry). y.edits) (sym there ∙ here) in
+    let group = groups n x (omega (arith, within, length-map changes of_change)) in
+    let all = ap edit_count (sym e) ∙ ap length (edits_joined before (x ∷ (more ++ rest)))
+    ∙ length-append (edits_of before) (x.edits ++ edits_of (more ++ rest)) in
+    let behind = length-append x.edits (edits_of (more ++ rest)) in (
+      subst (λ (y : HistoryEntry). IsGroup y.edits) here group,
+      omega (arith, few, all, behind),
       (
-        effect,
-        subst (λ (edit : Edit). IsTaken (framework_after f before) edit effect) same
-            (subst (λ l. IsTaken (framework_after f l) (get_or changes n d).effect.edit effect) front taken),
+        c.effects,
+        subst (λ edits. group_told (framework_after f before) edits ≡ Ok c.effects) same
+            (subst (λ l. group_told (framework_after f l) (edits_in c.effects) ≡ Ok c.effects) front
+            (group_at f n changes d done within)),
       ),
-      are_coming f limit changes done few (before ++ x ∷ []) more rest
+      are_coming f limit changes done few groups (before ++ x ∷ []) more rest
           (append_assoc before (x ∷ []) (more ++ rest) ∙ e),
     )
 
@@ -173,41 +188,44 @@ are_foreign s before now gained =
     (sym (filter-append (λ (e : HistoryEntry). session_of e == s) before more)
     ∙ (ap (entries_of session_of s) gained.longer.1 ∙ gained.own))
 
--- ---- an edit
+-- ---- edits
 
--- the history that an edit found, and what it added
-record IsFound (s : ℕ) (edit : Edit) (before now : List HistoryEntry) (body : Body) : Type 0 where
+-- the history that edits found, and what they added
+record IsFound (s : ℕ) (edits : List Edit) (before now : List HistoryEntry) (body : Body) : Type 0 where
   found : List HistoryEntry
   gained : GainsOthers s before found
-  added : found ++ added_by s edit body ≡ now
+  added : found ++ added_by s edits body ≡ now
 
-found_of : (limit : ℕ) (f : Framework) (s : ℕ) (edit : Edit) (before now : List HistoryEntry) (body : Body)
-    → EditSays limit f s edit before now body → IsFound s edit before now body
-found_of limit f s edit before now (Done effect) says =
+found_of : (grouped : Bool) (limit : ℕ) (f : Framework) (s : ℕ) (edits : List Edit) (before now : List HistoryEntry)
+    (body : Body) → EditSays grouped limit f s edits before now body → IsFound s edits before now body
+found_of grouped limit f s edits before now (Done effects) says =
     record { found = says.found; gained = says.gained; added = sym says.added.longer }
-found_of limit f s edit before now (EditRefused fault) says =
+found_of grouped limit f s edits before now (EditRefused told fault) says =
     record { found = now; gained = says.0; added = append-nil now }
-found_of limit f s edit before now Full says = record { found = now; gained = says.0; added = append-nil now }
-found_of limit f s edit before now (Answered given certificate) says = absurd says
-found_of limit f s edit before now (QueryRefused fault) says = absurd says
-found_of limit f s edit before now (Unknown count) says = absurd says
-found_of limit f s edit before now TooMany says = absurd says
-found_of limit f s edit before now LogFull says = absurd says
+found_of grouped limit f s edits before now Full says =
+    record { found = now; gained = says.0; added = append-nil now }
+found_of grouped limit f s edits before now (Answered given certificate) says = absurd says
+found_of grouped limit f s edits before now (QueryRefused fault) says = absurd says
+found_of grouped limit f s edits before now (Unknown count) says = absurd says
+found_of grouped limit f s edits before now TooMany says = absurd says
+found_of grouped limit f s edits before now LogFull says = absurd says
 
-made_same : (s : ℕ) (edit : Edit) (body : Body) → added_by s edit body ≡ made_by s (change_by edit) body
-made_same s edit (Done effect) = refl
-made_same s edit (EditRefused fault) = refl
-made_same s edit Full = refl
-made_same s edit (Answered given certificate) = refl
-made_same s edit (QueryRefused fault) = refl
-made_same s edit (Unknown count) = refl
-made_same s edit TooMany = refl
-made_same s edit LogFull = refl
+made_same : (s : ℕ) (edits : List Edit) (grouped : Bool) (body : Body)
+    → added_by s edits body ≡ made_by s (change_by edits grouped) body
+made_same s edits grouped (Done effects) = refl
+made_same s edits grouped (EditRefused told fault) = refl
+made_same s edits grouped Full = refl
+made_same s edits grouped (Answered given certificate) = refl
+made_same s edits grouped (QueryRefused fault) = refl
+made_same s edits grouped (Unknown count) = refl
+made_same s edits grouped TooMany = refl
+made_same s edits grouped LogFull = refl
 
 -- ---- the lines of a session
 
 module _ (f : Framework) (limit budget s : ℕ) (changes : List Change) (done : AreDone f changes)
-    (few : length changes ≤ limit) (start : Core) (answers : List KeptAnswer)
+    (few : edit_count (entries_in changes) ≤ limit)
+    (groups : All (λ (e : HistoryEntry). IsGroup e.edits) (entries_in changes)) (start : Core) (answers : List KeptAnswer)
     (pooled : (kept : KeptAnswer) → Contains answers kept → HasPooled start kept.tokens) where
   -- the session stands in the core as it does between two lines
   record StandsIn (core : Core) (stand : Stand) : Type 0 where
@@ -230,7 +248,7 @@ module _ (f : Framework) (limit budget s : ℕ) (changes : List Change) (done : 
       let more = one.0 in
       let whole : old.seen ++ (more ++ on.0) ≡ entries_in changes =
       sym (append_assoc old.seen more on.0) ∙ (ap (λ l. l ++ on.0) one.1 ∙ on.1) in
-      let coming = are_coming f limit changes done few old.seen more on.0 whole in
+      let coming = are_coming f limit changes done few groups old.seen more on.0 whole in
       let ran = commits_run more core
       (subst (λ g. AreComing g core.limit core.history more) (sym h.at.opening)
       (subst (λ n. AreComing f n core.history more) (sym h.limit_is)
@@ -250,29 +268,30 @@ module _ (f : Framework) (limit budget s : ℕ) (changes : List Change) (done : 
         pool_is = to.pool ∙ h.pool_is;
       }
 
-  edit_line : (edit : Edit) (reply : Reply) (core : Core) (old new : Stand) → StandsIn core old
-      → DoesEdit f limit s edit old reply new → IsPrefix new.seen (entries_in changes)
-      → (end : Core) × RunsLine s budget (change_by edit) reply core end × StandsIn end new
-  edit_line edit reply core old new h does on =
-      let is = found_of limit f s edit old.seen new.seen reply.body does.told.says in
-      let added = added_by s edit reply.body in
+  edit_line : (grouped : Bool) (edits : List Edit) (reply : Reply) (core : Core) (old new : Stand) → StandsIn core old
+      → DoesEdit grouped f limit s edits old reply new → IsPrefix new.seen (entries_in changes)
+      → (end : Core) × RunsLine s budget (change_by edits grouped) reply core end × StandsIn end new
+  edit_line grouped edits reply core old new h does on =
+      let is = found_of grouped limit f s edits old.seen new.seen reply.body does.told.says in
+      let added = added_by s edits reply.body in
       let o = others_come core old is.found h is.gained.longer
       (prefix_on is.found new.seen (entries_in changes) (added, is.added) on) in
       let long = prefix_short old.seen new.seen
       (prefix_on old.seen is.found new.seen is.gained.longer (added, is.added)) in
       let at : o.mid.history ++ added ≡ new.seen = ap (λ l. l ++ added) o.at.history_is ∙ is.added in
       let end = after_turn o.mid s added in
-      let run = edits_run f limit s edit old.seen new.seen reply o.mid does.told o.at.opening o.limit_is at in
+      let run = edits_run grouped f limit s edits old.seen new.seen reply o.mid does.group does.told o.at.opening
+      o.limit_is at in
       let more = is.gained.longer.0 in (
         end,
         record {
           others = more;
           foreign = are_foreign s old.seen is.found is.gained;
-          events = commit s edit ∷ [];
+          events = commit s edits ∷ [];
           own = refl;
-          runs = subst (λ l. Runs core (commits_of more ++ commit s edit ∷ []) (more ++ l) end)
-              (made_same s edit reply.body)
-              (runs_append core o.mid end (commits_of more) (commit s edit ∷ []) more added o.runs run);
+          runs = subst (λ l. Runs core (commits_of more ++ commit s edits ∷ []) (more ++ l) end)
+              (made_same s edits grouped reply.body)
+              (runs_append core o.mid end (commits_of more) (commit s edits ∷ []) more added o.runs run);
           front = does.told.front ∙ sym (ap length at);
         },
         record {
@@ -344,7 +363,8 @@ module _ (f : Framework) (limit budget s : ℕ) (changes : List Change) (done : 
       → DoesCommand f limit budget s command old reply new → IsPrefix new.seen (entries_in changes)
       → ((kept : KeptAnswer) → Contains new.answers kept → Contains answers kept)
       → (end : Core) × RunsLine s budget command reply core end × StandsIn end new
-  line_run (change_by edit) reply core old new h does on keep = edit_line edit reply core old new h does on
+  line_run (change_by edits grouped) reply core old new h does on keep =
+      edit_line grouped edits reply core old new h does on
   line_run (Ask asked) reply core old new h does on keep = query_line asked reply core old new h does on keep
 
   lines_run : (lines : List ScriptLine) (replies : List Reply) (core : Core) (old new : Stand) → StandsIn core old
@@ -391,6 +411,36 @@ begun_pooled f limit answers row kept there = record {
       ∙ ap (λ (x : Token). Some (entry_of x)) at.2);
 }
 
+-- ---- each entry is a group
+
+groups_made : (f : Framework) (limit budget s : ℕ) (lines : List ScriptLine) (replies : List Reply) (old new : Stand)
+    → Walks f limit budget s old lines replies new → (x : HistoryEntry) → Contains (entries_made s lines replies) x
+    → IsGroup x.edits
+groups_made f limit budget s [] replies old new walks x c = absurd (Contains-nil x c)
+groups_made f limit budget s (line ∷ lines) [] old new walks x c = absurd (Contains-nil x c)
+groups_made f limit budget s (line ∷ lines) (reply ∷ replies) old new walks x c =
+    ⊎_elim (λ here.
+    let of_line = made_here s line.command reply.body x here in
+    (subst (λ command. DoesCommand f limit budget s command old reply walks.0) of_line.command_is walks.1).group)
+    (λ later. groups_made f limit budget s lines replies walks.0 new walks.2 x later)
+    (Contains-append_cases (made_by s line.command reply.body) (entries_made s lines replies) x c)
+
+all_groups : (f : Framework) (script : Script) (budget : ℕ) (t : ScriptTranscript) → IsTranscriptOf f script budget t
+    → All (λ (e : HistoryEntry). IsGroup e.edits) (entries_in t.history.entries.items)
+all_groups f script budget t is = λ n d low.
+    let entries = entries_in t.history.entries.items in
+    let x = get_or entries n d in
+    let bounds = is.numbered n d low in
+    let k = x.session - 1 in
+    let session : x.session ≡ k + 1 = omega (arith, bounds.0) in
+    let inside : k < is.sessions = omega (arith, bounds.0, bounds.1) in
+    let nothing : Kept = some_item t.kept.items (omega (arith, inside, is.kept)) in
+    let served = is.served k [] nothing inside in
+    let own = (Contains-filter (λ (e : HistoryEntry). session_of e == k + 1) entries x).1
+    (Contains-get_or entries n d low, eq-eqb x.session (k + 1) session) in
+    groups_made f MAX_HISTORY budget (k + 1) (lines_of (k + 1) script.lines) (slice_index_or t.replies.items k [])
+    (at_start MAX_STEPS) served.walked.end served.walked.walks x (subst (λ l. Contains l x) served.own own)
+
 -- ---- the law
 
 rests_empty : IsAtRest (at_start MAX_STEPS).log 0
@@ -405,7 +455,8 @@ sessions_run f script budget t is k none nothing low =
     let answers = (slice_index_or t.kept.items k nothing).answers.items in
     let core = begun f MAX_HISTORY answers in
     let pooled = begun_pooled f MAX_HISTORY answers (is.shared k nothing inside).row in
-    let started : StandsIn f MAX_HISTORY budget s changes is.taken is.within core answers pooled core
+    let groups = all_groups f script budget t is in
+    let started : StandsIn f MAX_HISTORY budget s changes is.taken is.within groups core answers pooled core
     (at_start MAX_STEPS) = record {
       at = record {
         opening = refl;
@@ -418,10 +469,10 @@ sessions_run f script budget t is k none nothing low =
       pool_is = refl;
       followed = omega arith;
     } in
-    let ran = lines_run f MAX_HISTORY budget s changes is.taken is.within core answers pooled _ _ core
+    let ran = lines_run f MAX_HISTORY budget s changes is.taken is.within groups core answers pooled _ _ core
     (at_start MAX_STEPS) walked.end started walked.walks walked.gained.longer
     (λ kept there. subst (λ l. Contains l kept) (sym walked.answers_are) there) in
-    let o = others_come f MAX_HISTORY budget s changes is.taken is.within core answers pooled ran.0 walked.end
+    let o = others_come f MAX_HISTORY budget s changes is.taken is.within groups core answers pooled ran.0 walked.end
     (entries_in changes) ran.2 walked.gained.longer ([], append-nil (entries_in changes)) in
     record {
       mid = ran.0;

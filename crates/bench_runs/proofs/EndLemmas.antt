@@ -5,7 +5,7 @@ use Rattle.std.proofs.Common.{nat_lt, inl, inr, ⊎_elim}
 use Rattle.std.specs.Prelude.{All, ◌↔◌, count_by, filter, min}
 use Rattle.std.specs.List.{AllPairs, range_with_len}
 use Rattle.std.proofs.lemmas.Bool.{cases_eq, cases_lt, eq-eqb, lt-ltb, ne_eqb}
-use Rattle.std.proofs.lemmas.List.{append_assoc, get_or_default, map-append}
+use Rattle.std.proofs.lemmas.List.{append_assoc, get_or_default}
 use Rattle.std.proofs.lemmas.List.Elements.{Contains-append_left, Contains-append_right, Contains-get_or, filter-append}
 use Rattle.std.proofs.lemmas.List.Sums.{count_by-le-length, length-filter}
 use Rattle.lists.proofs.Counts.{none_counted}
@@ -16,26 +16,28 @@ use Rattle.semantics.specs.Frameworks.{Framework, af, aba, IsNumbered, IsNumbere
 use Rattle.edit_rules.specs.declared.edit.Edit.{Edit}
 use Rattle.edit_rules.specs.declared.edit.Edit.TheVariants.{AttackAdd, AttackDrop}
 use Rattle.edit_rules.specs.Replay.{IsTaken, after_edit, replay}
+use Rattle.edit_rules.proofs.GroupLemmas.{replay_both}
 use Rattle.edit_rules.proofs.SameFrameworks.{same_framework}
 use Rattle.turn_lock.specs.Turns.{entries_of}
 use Rattle.edit_history.specs.declared.entry.HistoryEntry.{HistoryEntry}
-use Rattle.edit_history.specs.Entries.{framework_after, session_of}
-use Rattle.script_text.specs.declared.script.ScriptCommand.TheVariants.{Edit as change_by, Ask}
+use Rattle.edit_history.specs.Entries.{edits_of, framework_after, session_of}
 use Rattle.script_text.specs.declared.script.ScriptLine.{ScriptLine}
 use Rattle.session_replies.specs.declared.reply.Reply.{Reply}
 use Rattle.oracle_face.specs.Logs.{OracleLog}
 use Rattle.bench_runs.specs.session_core.specs.declared.kept.KeptAnswer.{KeptAnswer}
 use Rattle.bench_runs.specs.Served.{entries_made, entry_by, lines_of}
 use Rattle.bench_runs.specs.Generator.{bench_framework, first}
-use Rattle.bench_runs.specs.Scripts.{asked_about, bench_script, line_for, session_for}
+use Rattle.session_core.proofs.FollowingLemmas.{edits_joined}
+use Rattle.bench_runs.specs.Scripts.{asked_about, bench_script, line_for, session_for, single}
 use Rattle.bench_runs.proofs.FrameworkForm.{bench_form, first_there}
 use Rattle.bench_runs.proofs.Moves.{attacks_in, come, live_in, live_stays, stays, was_there}
-use Rattle.bench_runs.proofs.ScriptLines.{IsBenchEdit, added_in, edit_lines, edit_place, is_edit, sessions_few}
+use Rattle.bench_runs.proofs.ScriptLines.{IsBenchEdit, added_in, edit_lines, group_place, is_edit}
+use Rattle.bench_runs.proofs.ScriptLines.{sessions_few}
 use Rattle.bench_runs.proofs.ListLemmas.{behind, count_all, count_swap, total_within}
 use Rattle.bench_runs.proofs.MadeLemmas.{IsEntryBefore, entries_rise, made_each}
-use Rattle.bench_runs.proofs.TakenLemmas.{IsHistoryOf, add_done, all_taken, bench_edit, bench_entry, edit_ends}
-use Rattle.bench_runs.proofs.TakenLemmas.{edits_of, history_few, in_form, line_in, mapped, moves, no_line}
-use Rattle.bench_runs.proofs.TakenLemmas.{no_reply, plain_after, replay_on, rise, session_at, takes_of, target}
+use Rattle.bench_runs.proofs.TakenLemmas.{IsHistoryOf, add_done, all_taken, bench_edit, bench_entry, bench_of}
+use Rattle.bench_runs.proofs.TakenLemmas.{edit_ends, history_few, in_entry, in_form, line_in, moves, no_line}
+use Rattle.bench_runs.proofs.TakenLemmas.{no_reply, plain_after, rise, session_at, single_taken, takes_of, target}
 
 no_session : (s : ℕ) → 1 ≤ s → (s == 0) ≡ false
 no_session s low = ne_eqb s 0 (λ e. absurd (omega arith))
@@ -131,11 +133,11 @@ module _ (n seed limit budget sessions : ℕ) (history : List HistoryEntry) (rep
     below : k < sessions
     at : ℕ
     inside : at < length (lines k)
-    command_is : (get_or (lines k) at no_line).command ≡ change_by (AttackAdd (first n seed a) a)
+    command_is : (get_or (lines k) at no_line).command ≡ single (AttackAdd (first n seed a) a)
 
   added_at : (a : ℕ) → 1 ≤ a → a ≤ asked_about n → AddedAt a
   added_at a low high =
-      let line = line_for a (change_by (AttackAdd (first n seed a) a)) in
+      let line = line_for a (single (AttackAdd (first n seed a) a)) in
       let there = added_in n seed a low high in
       let bounds = sessions_few n seed line there in
       let most = is.named line there in
@@ -155,18 +157,19 @@ module _ (n seed limit budget sessions : ℕ) (history : List HistoryEntry) (rep
   -- behind the addition there is no drop
   no_drop_behind : (k a : ℕ) (found rest : List HistoryEntry) → k < sessions
       → IsBenchEdit n seed (k + 1) (AttackAdd (first n seed a) a)
-      → (found ++ entry_by (k + 1) (AttackAdd (first n seed a) a) ∷ []) ++ rest ≡ history
-      → (x : HistoryEntry) → Contains rest x → x.edit ≡ AttackDrop (first n seed a) a → ⊥
+      → (found ++ entry_by (k + 1) (AttackAdd (first n seed a) a ∷ []) ∷ []) ++ rest ≡ history
+      → (x : HistoryEntry) → Contains rest x → x.edits ≡ AttackDrop (first n seed a) a ∷ [] → ⊥
   no_drop_behind k a found rest below mine split x c e =
       let b = first n seed a in
-      let add = entry_by (k + 1) (AttackAdd b a) in
+      let add = entry_by (k + 1) (AttackAdd b a ∷ []) in
       let own : HistoryEntry → Bool = λ y. session_of y == k + 1 in
       let there : Contains history x =
       subst (λ l. Contains l x) split (Contains-append_right (found ++ add ∷ []) rest x c) in
       let s : x.session ≡ k + 1 =
-      session_at n seed x.session x.edit
-      (bench_entry n seed limit budget sessions history replies log answers is x there)
-      ∙ ap (λ y. session_for (target y)) e ∙ sym (session_at n seed (k + 1) (AttackAdd b a) mine) in
+      session_at n seed x.session (AttackDrop b a)
+      (bench_of n seed x.session x.edits (AttackDrop b a)
+      (bench_entry n seed limit budget sessions history replies log answers is x there) e)
+      ∙ sym (session_at n seed (k + 1) (AttackAdd b a) mine) in
       let whole : entries_made (k + 1) (lines k) (replies k) ≡ filter own found ++ add ∷ filter own rest =
       sym (is.served k below).own ∙ ap (filter own) (sym split)
       ∙ filtered_one own found add rest (eq-eqb (k + 1) (k + 1) refl) in
@@ -175,7 +178,7 @@ module _ (n seed limit budget sessions : ℕ) (history : List HistoryEntry) (rep
       let order = behind IsEntryBefore (filter own found) add (filter own rest) x
       (subst (λ l. AllPairs IsEntryBefore l) whole up)
       ((Contains-filter own rest x).1 (c, eq-eqb x.session (k + 1) s)) in
-      let place : edit_place x.edit ≡ 4 * a = ap edit_place e in
+      let place : group_place x.edits ≡ 4 * a = ap group_place e in
       omega (arith, order, place)
 
   first_at_end : (a : ℕ) → 1 ≤ a → a ≤ asked_about n
@@ -190,9 +193,9 @@ module _ (n seed limit budget sessions : ℕ) (history : List HistoryEntry) (rep
       let done = add_done n seed limit budget sessions history replies log answers is at.k at.at a at.below at.inside
       low
       high at.command_is in
-      let takes = takes_of f limit (at.k + 1) history (AttackAdd b a) reply.front reply.body done ends in
+      let takes = takes_of false f limit (at.k + 1) history (AttackAdd b a ∷ []) reply.front reply.body done ends in
       let found = takes.1.found in
-      let add = entry_by (at.k + 1) (AttackAdd b a) in
+      let add = entry_by (at.k + 1) (AttackAdd b a ∷ []) in
       let rest = takes.1.at.beginning.0 in
       let split = takes.1.at.beginning.1 in
       let mine = bench_edit n seed limit budget sessions history replies log answers is at.k at.at
@@ -202,17 +205,18 @@ module _ (n seed limit budget sessions : ℕ) (history : List HistoryEntry) (rep
       subst (λ l. Contains l x) split (Contains-append_right (found ++ add ∷ []) rest x c) in
       let left : framework_after f history
       ≡ replay (after_edit (framework_after f found) (AttackAdd b a)) (edits_of rest) =
-      ap (framework_after f) (sym split) ∙ ap (replay f) (map-append (λ (e : HistoryEntry). e.edit) (found ++ add ∷ [])
-      rest)
-      ∙ replay_on f (edits_of (found ++ add ∷ [])) (edits_of rest)
-      ∙ ap (λ l. replay (replay f l) (edits_of rest)) (map-append (λ (e : HistoryEntry). e.edit) found (add ∷ []))
-      ∙ ap (λ g. replay g (edits_of rest)) (replay_on f (edits_of found) (AttackAdd b a ∷ [])) in
+      ap (framework_after f) (sym split) ∙ ap (replay f) (edits_joined (found ++ add ∷ []) rest)
+      ∙ replay_both f (edits_of (found ++ add ∷ [])) (edits_of rest)
+      ∙ ap (λ l. replay (replay f l) (edits_of rest)) (edits_joined found (add ∷ []))
+      ∙ ap (λ g. replay g (edits_of rest)) (replay_both f (edits_of found) (AttackAdd b a ∷ [])) in
+      let one = single_taken (framework_after f found) (AttackAdd b a) takes.0 takes.1.taken in
       let h = plain_after n seed limit budget sessions history replies log answers is found in
       let there : Contains (attacks_in (after_edit (framework_after f found) (AttackAdd b a))) (b, a) =
       subst (λ g. Contains (attacks_in (after_edit g (AttackAdd b a))) (b, a)) (sym h.1)
-      (come h.0 b a takes.0 (subst (λ g. IsTaken g (AttackAdd b a) takes.0) h.1 takes.1.taken)) in
+      (come h.0 b a one.0 (subst (λ g. IsTaken g (AttackAdd b a) one.0) h.1 one.1)) in
       let none : Contains (edits_of rest) (AttackDrop b a) → ⊥ = λ c.
-      let dropped = mapped (λ (e : HistoryEntry). e.edit) rest (AttackDrop b a) c in
+      let dropped = in_entry n seed limit budget sessions history replies log answers is rest within (AttackDrop b a) c
+      in
       no_drop_behind at.k a found rest at.below mine split dropped.0 dropped.1 dropped.2 in
       subst (λ g. Contains (attacks_in g) (b, a)) (sym left)
       (stays (after_edit (framework_after f found) (AttackAdd b a)) (edits_of rest) (b, a)
@@ -222,10 +226,10 @@ module _ (n seed limit budget sessions : ℕ) (history : List HistoryEntry) (rep
   others_alone : (p : ℕ × ℕ) → (IsFirst n seed p → ⊥) → (edit : Edit) → pair_of edit ≡ p
       → Contains (edits_of history) edit → ⊥
   others_alone p never edit e c =
-      let found = mapped (λ (e : HistoryEntry). e.edit) history edit c in
-      never (is_first n seed found.0.session found.0.edit p
-      (bench_entry n seed limit budget sessions history replies log answers is found.0 found.1)
-      (ap pair_of found.2 ∙ e))
+      let found = in_entry n seed limit budget sessions history replies log answers is history (λ x h. h) edit c in
+      never (is_first n seed found.0.session edit p
+      (bench_of n seed found.0.session found.0.edits edit
+      (bench_entry n seed limit budget sessions history replies log answers is found.0 found.1) found.2) e)
 
   same_attacks : (p : ℕ × ℕ)
       → Contains (attacks_in (framework_after f history)) p ↔ Contains (bench_framework n seed).attacks p

@@ -14,7 +14,7 @@ use Rattle.turn_lock.specs.Seats.{list_of, number_of}
 use Rattle.turn_lock.specs.Turns.{entries_of}
 use Rattle.edit_history.specs.declared.entry.HistoryEntry.{HistoryEntry}
 use Rattle.edit_history.specs.declared.hub.Hub.{Hub}
-use Rattle.edit_history.specs.Entries.{AreDone, entries_in, session_of}
+use Rattle.edit_history.specs.Entries.{AreDone, edit_count, entries_in, session_of}
 use Rattle.edit_history.specs.Hubs.{AreSeatsOf, IsSeatAt, limit_of, sessions_of, start_of}
 use Rattle.script_text.specs.declared.script.Script.{Script}
 use Rattle.script_text.specs.declared.script.ScriptLine.{ScriptLine}
@@ -215,7 +215,7 @@ transcript_is script budget count hub pool runners t f start limit are few some 
     record {
       form = form;
       opening = h.history.opening ∙ start;
-      within = subst (λ n. length t.history.entries.items ≤ n) limit h.history.within;
+      within = subst (λ n. edit_count (entries_in t.history.entries.items) ≤ n) limit h.history.within;
       taken = subst (λ g. AreDone g t.history.entries.items) start h.history.effects;
       sessions = count;
       sessions_are = are;

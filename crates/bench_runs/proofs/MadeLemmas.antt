@@ -19,28 +19,30 @@ use Rattle.session_replies.specs.declared.reply.Body.TheVariants.{Unknown, TooMa
 use Rattle.session_replies.specs.declared.reply.Reply.{Reply}
 use Rattle.bench_runs.specs.Served.{entries_made, entry_by, made_by}
 use Rattle.bench_runs.specs.Taken.{IsDone, IsTakenOn}
-use Rattle.bench_runs.proofs.ScriptLines.{IsPlacedBefore, edit_place, is_edit, place_of}
+use Rattle.bench_runs.proofs.ScriptLines.{IsPlacedBefore, group_place, is_edit, place_of}
 
--- the entry is the edit of a line, and the reply to it tells that it was taken
+-- the entry is the group of a line, and the reply to it tells that it was taken
 pub record IsOfLine (command : ScriptCommand) (body : Body) (x : HistoryEntry) : Type 0 where
-  pub command_is : command ≡ change_by x.edit
+  pub grouped : Bool
+  pub command_is : command ≡ change_by x.edits grouped
   pub done : IsDone body
 
-made_here : (s : ℕ) (command : ScriptCommand) (body : Body) (x : HistoryEntry) → Contains (made_by s command body) x
+pub made_here : (s : ℕ) (command : ScriptCommand) (body : Body) (x : HistoryEntry) → Contains (made_by s command body) x
     → IsOfLine command body x
-made_here s (change_by edit) (Done effect) x c =
-    ⊎_elim (λ (e : entry_by s edit ≡ x). record {
-      command_is = ap (λ (y : HistoryEntry). change_by y.edit) e;
+made_here s (change_by edits grouped) (Done effects) x c =
+    ⊎_elim (λ (e : entry_by s edits ≡ x). record {
+      grouped = grouped;
+      command_is = ap (λ (y : HistoryEntry). change_by y.edits grouped) e;
       done = tt;
     })
-    (λ none. absurd (Contains-nil x none)) (Contains-cons_cases (entry_by s edit) [] x c)
-made_here s (change_by edit) (EditRefused fault) x c = absurd (Contains-nil x c)
-made_here s (change_by edit) Full x c = absurd (Contains-nil x c)
-made_here s (change_by edit) (Answered answer certificate) x c = absurd (Contains-nil x c)
-made_here s (change_by edit) (QueryRefused fault) x c = absurd (Contains-nil x c)
-made_here s (change_by edit) (Unknown count) x c = absurd (Contains-nil x c)
-made_here s (change_by edit) TooMany x c = absurd (Contains-nil x c)
-made_here s (change_by edit) LogFull x c = absurd (Contains-nil x c)
+    (λ none. absurd (Contains-nil x none)) (Contains-cons_cases (entry_by s edits) [] x c)
+made_here s (change_by edits grouped) (EditRefused told fault) x c = absurd (Contains-nil x c)
+made_here s (change_by edits grouped) Full x c = absurd (Contains-nil x c)
+made_here s (change_by edits grouped) (Answered answer certificate) x c = absurd (Contains-nil x c)
+made_here s (change_by edits grouped) (QueryRefused fault) x c = absurd (Contains-nil x c)
+made_here s (change_by edits grouped) (Unknown count) x c = absurd (Contains-nil x c)
+made_here s (change_by edits grouped) TooMany x c = absurd (Contains-nil x c)
+made_here s (change_by edits grouped) LogFull x c = absurd (Contains-nil x c)
 made_here s (Ask asked) body x c = absurd (Contains-nil x c)
 
 -- the line and the reply that an entry comes from
@@ -65,11 +67,11 @@ made_at s (line ∷ lines) (reply ∷ replies) x c =
 
 -- the place of an entry that a line made is the line's
 abbrev pub IsEntryBefore : HistoryEntry → HistoryEntry → Type 0
-IsEntryBefore x y = edit_place x.edit < edit_place y.edit
+IsEntryBefore x y = group_place x.edits < group_place y.edits
 
 places_on : (s : ℕ) (line : ScriptLine) (lines : List ScriptLine) (replies : List Reply)
     → AllPairs IsPlacedBefore (line ∷ lines) → (y : HistoryEntry) → Contains (entries_made s lines replies) y
-    → place_of line.command < edit_place y.edit
+    → place_of line.command < group_place y.edits
 places_on s line lines replies rise y c =
     let made = made_at s lines replies y c in
     let after : place_of line.command < place_of (get_or lines made.at line).command =
@@ -78,18 +80,18 @@ places_on s line lines replies rise y c =
     (made.of_line line (record { front = 0; body = Full })).command_is after
 
 made_rise : (s : ℕ) (command : ScriptCommand) (body : Body) (rest : List HistoryEntry) → AllPairs IsEntryBefore rest
-    → ((y : HistoryEntry) → Contains rest y → place_of command < edit_place y.edit)
+    → ((y : HistoryEntry) → Contains rest y → place_of command < group_place y.edits)
     → AllPairs IsEntryBefore (made_by s command body ++ rest)
-made_rise s (change_by edit) (Done effect) rest up after =
-    AllPairs-cons IsEntryBefore (entry_by s edit) rest
+made_rise s (change_by edits grouped) (Done effects) rest up after =
+    AllPairs-cons IsEntryBefore (entry_by s edits) rest
     (λ k d lt. after (get_or rest k d) (Contains-get_or rest k d lt)) up
-made_rise s (change_by edit) (EditRefused fault) rest up after = up
-made_rise s (change_by edit) Full rest up after = up
-made_rise s (change_by edit) (Answered answer certificate) rest up after = up
-made_rise s (change_by edit) (QueryRefused fault) rest up after = up
-made_rise s (change_by edit) (Unknown count) rest up after = up
-made_rise s (change_by edit) TooMany rest up after = up
-made_rise s (change_by edit) LogFull rest up after = up
+made_rise s (change_by edits grouped) (EditRefused told fault) rest up after = up
+made_rise s (change_by edits grouped) Full rest up after = up
+made_rise s (change_by edits grouped) (Answered answer certificate) rest up after = up
+made_rise s (change_by edits grouped) (QueryRefused fault) rest up after = up
+made_rise s (change_by edits grouped) (Unknown count) rest up after = up
+made_rise s (change_by edits grouped) TooMany rest up after = up
+made_rise s (change_by edits grouped) LogFull rest up after = up
 made_rise s (Ask asked) body rest up after = up
 
 pub entries_rise : (s : ℕ) (lines : List ScriptLine) (replies : List Reply) → AllPairs IsPlacedBefore lines
@@ -106,14 +108,14 @@ entries_rise s (line ∷ lines) (reply ∷ replies) rise =
 made_long : (s : ℕ) (command : ScriptCommand) (body : Body)
     → (length (made_by s command body) ≤ cond (is_edit command) 1 0)
     × (IsTakenOn command body → length (made_by s command body) ≡ cond (is_edit command) 1 0)
-made_long s (change_by edit) (Done effect) = (omega arith, λ _. refl)
-made_long s (change_by edit) (EditRefused fault) = (omega arith, λ h. absurd h)
-made_long s (change_by edit) Full = (omega arith, λ h. absurd h)
-made_long s (change_by edit) (Answered answer certificate) = (omega arith, λ h. absurd h)
-made_long s (change_by edit) (QueryRefused fault) = (omega arith, λ h. absurd h)
-made_long s (change_by edit) (Unknown count) = (omega arith, λ h. absurd h)
-made_long s (change_by edit) TooMany = (omega arith, λ h. absurd h)
-made_long s (change_by edit) LogFull = (omega arith, λ h. absurd h)
+made_long s (change_by edits grouped) (Done effects) = (omega arith, λ _. refl)
+made_long s (change_by edits grouped) (EditRefused told fault) = (omega arith, λ h. absurd h)
+made_long s (change_by edits grouped) Full = (omega arith, λ h. absurd h)
+made_long s (change_by edits grouped) (Answered answer certificate) = (omega arith, λ h. absurd h)
+made_long s (change_by edits grouped) (QueryRefused fault) = (omega arith, λ h. absurd h)
+made_long s (change_by edits grouped) (Unknown count) = (omega arith, λ h. absurd h)
+made_long s (change_by edits grouped) TooMany = (omega arith, λ h. absurd h)
+made_long s (change_by edits grouped) LogFull = (omega arith, λ h. absurd h)
 made_long s (Ask asked) body = (omega arith, λ _. refl)
 
 pub made_few : (s : ℕ) (lines : List ScriptLine) (replies : List Reply)

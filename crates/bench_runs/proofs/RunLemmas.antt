@@ -13,7 +13,6 @@ use Rattle.iccma_tasks.specs.declared.task.Semantics.TheVariants.{Grounded}
 use Rattle.edit_rules.specs.Kinds.{framework_of}
 use Rattle.edit_history.specs.declared.entry.Change.{Change}
 use Rattle.edit_history.specs.Entries.{entries_in, entry_of, framework_after}
-use Rattle.script_text.specs.declared.script.ScriptCommand.TheVariants.{Edit as change_by}
 use Rattle.script_text.specs.declared.script.Script.{Script}
 use Rattle.script_text.specs.declared.script.ScriptLine.{ScriptLine}
 use Rattle.script_text.specs.declared.script.TheConstants.{MAX_SESSIONS}
@@ -25,7 +24,7 @@ use Rattle.bench_runs.specs.Transcripts.{AreSessions, IsTranscriptOf}
 use Rattle.bench_runs.specs.declared.script_run.TheConstants.{MAX_HISTORY}
 use Rattle.bench_runs.specs.declared.transcript.ScriptTranscript.{ScriptTranscript}
 use Rattle.bench_runs.specs.Generator.{bench_framework, first}
-use Rattle.bench_runs.specs.Scripts.{asked_about, bench_script, line_for}
+use Rattle.bench_runs.specs.Scripts.{asked_about, bench_script, line_for, single}
 use Rattle.bench_runs.specs.declared.input.TheConstants.{MAX_ARGUMENTS}
 use Rattle.bench_runs.proofs.ScriptLines.{dropped_in, script_long, sessions_few}
 use Rattle.bench_runs.specs.declared.counts.Counts.{Counts}
@@ -71,7 +70,7 @@ module _ (n seed budget : ℕ) (t : ScriptTranscript) (some : 1 ≤ n) (few : n 
 
   some_session : 1 ≤ is.sessions
   some_session =
-      let line = line_for 1 (change_by (AttackDrop (first n seed 1) 1)) in
+      let line = line_for 1 (single (AttackDrop (first n seed 1) 1)) in
       let there = dropped_in n seed (suc zero) (omega arith) (omega arith) in
       let low = (sessions_few n seed line there).0 in
       let high = is.sessions_are.each line there in

@@ -1,5 +1,5 @@
 -- The lines of a large input's script: which there are, and that no edit stands twice.
-use Rattle.std.proofs.Common.{Bool, true, false, ◌≡◌, ◌⊎◌, ℕ, zero, suc, ◌+◌, ◌-◌, ◌*◌, ◌<◌, ◌≤◌, List, ◌∷◌}
+use Rattle.std.proofs.Common.{Bool, true, false, ◌≡◌, ◌⊎◌, ℕ, zero, suc, ◌+◌, ◌-◌, ◌*◌, ◌<◌, ◌≤◌, List, [], ◌∷◌}
 use Rattle.std.proofs.Common.{Contains, length, get_or, arith, refl, subst, ◌∙◌, inl, inr, Option, Some}
 use Rattle.std.specs.Prelude.{All, count_by}
 use Rattle.std.specs.List.{AllPairs, flat_map, range_with_len}
@@ -19,7 +19,8 @@ use Rattle.script_text.specs.declared.script.ScriptCommand.{ScriptCommand}
 use Rattle.script_text.specs.declared.script.ScriptCommand.TheVariants.{Edit as change_by, Ask}
 use Rattle.script_text.specs.declared.script.ScriptLine.{ScriptLine}
 use Rattle.bench_runs.specs.Generator.{first}
-use Rattle.bench_runs.specs.Scripts.{asked_about, asked_of, bench_script, line_for, lines_by, lines_for, session_for}
+use Rattle.bench_runs.specs.Scripts.{asked_about, asked_of, bench_script, line_for, lines_by, lines_for}
+use Rattle.bench_runs.specs.Scripts.{session_for, single}
 use Rattle.bench_runs.proofs.Numbers.{for_listed, listed_for, number_from, number_in}
 
 -- ---- the place of a line
@@ -36,9 +37,14 @@ edit_place (AttackDrop b a) = 4 * a
 edit_place (AttackAdd b a) = 4 * a + 2
 edit_place edit = 0
 
+-- that of a group is its first edit's
+abbrev pub group_place : List Edit → ℕ
+group_place [] = 0
+group_place (edit ∷ more) = edit_place edit
+
 -- each line has a place of its own, and they rise along the script
 abbrev pub place_of : ScriptCommand → ℕ
-place_of (change_by edit) = edit_place edit
+place_of (change_by edits grouped) = group_place edits
 place_of (Ask asked) = asked_place asked.task.problem asked.number
 
 abbrev pub IsPlacedBefore : ScriptLine → ScriptLine → Type 0
@@ -46,13 +52,13 @@ IsPlacedBefore x y = place_of x.command < place_of y.command
 
 -- the four lines of an argument
 abbrev drop_line : ℕ → ℕ → ScriptLine
-drop_line b a = line_for a (change_by (AttackDrop b a))
+drop_line b a = line_for a (single (AttackDrop b a))
 
 abbrev credulous_line : ℕ → ScriptLine
 credulous_line a = line_for a (Ask (asked_of Credulous Complete a))
 
 abbrev add_line : ℕ → ℕ → ScriptLine
-add_line b a = line_for a (change_by (AttackAdd b a))
+add_line b a = line_for a (single (AttackAdd b a))
 
 abbrev sceptical_line : ℕ → ScriptLine
 sceptical_line a = line_for a (Ask (asked_of Sceptical Preferred a))
@@ -118,9 +124,15 @@ pub record IsBenchEdit (n seed session : ℕ) (edit : Edit) : Type 0 where
   pub session_is : session ≡ session_for about
   pub edit_is : (edit ≡ AttackDrop (first n seed about) about) ⊎ (edit ≡ AttackAdd (first n seed about) about)
 
--- where the command is an edit, it is one of those
+-- the group is one of these edits alone
+pub record IsBenchGroup (n seed session : ℕ) (edits : List Edit) : Type 0 where
+  pub edit : Edit
+  pub edits_are : edits ≡ edit ∷ []
+  pub is : IsBenchEdit n seed session edit
+
+-- where the command is a group of edits, it is one of those, and it is written as a plain line
 abbrev IfEdit : ℕ → ℕ → ScriptLine → ScriptCommand → Type 0
-IfEdit n seed line (change_by edit) = IsBenchEdit n seed line.session edit
+IfEdit n seed line (change_by edits grouped) = IsBenchGroup n seed line.session edits × (grouped ≡ false)
 IfEdit n seed line (Ask asked) = Unit {0}
 
 line_edits : (n seed : ℕ) (line : ScriptLine) → Contains (bench_script n seed).lines line
@@ -130,14 +142,23 @@ line_edits n seed line c =
     let at = number_in (asked_about n) found.0 found.1 in
     let a = found.0 in
     each_line (λ l. IfEdit n seed l l.command) (first n seed a) a line
-    (record { about = a; low = at.0; high = at.1; session_is = refl; edit_is = inl refl })
+    (record {
+      edit = AttackDrop (first n seed a) a;
+      edits_are = refl;
+      is = record { about = a; low = at.0; high = at.1; session_is = refl; edit_is = inl refl };
+    }, refl)
     tt
-    (record { about = a; low = at.0; high = at.1; session_is = refl; edit_is = inr refl })
+    (record {
+      edit = AttackAdd (first n seed a) a;
+      edits_are = refl;
+      is = record { about = a; low = at.0; high = at.1; session_is = refl; edit_is = inr refl };
+    }, refl)
     tt found.2
 
-pub edit_of_line : (n seed : ℕ) (line : ScriptLine) (edit : Edit) → Contains (bench_script n seed).lines line
-    → line.command ≡ change_by edit → IsBenchEdit n seed line.session edit
-edit_of_line n seed line edit c e = subst (IfEdit n seed line) e (line_edits n seed line c)
+pub edits_of_line : (n seed : ℕ) (line : ScriptLine) (edits : List Edit) (grouped : Bool)
+    → Contains (bench_script n seed).lines line → line.command ≡ change_by edits grouped
+    → IsBenchGroup n seed line.session edits × (grouped ≡ false)
+edits_of_line n seed line edits grouped c e = subst (IfEdit n seed line) e (line_edits n seed line c)
 
 -- the line that drops the first attack on an argument
 pub dropped_in : (n seed a : ℕ) → 1 ≤ a → a ≤ asked_about n
@@ -155,11 +176,11 @@ added_in n seed a low high =
 -- ---- how many lines there are
 
 abbrev pub is_edit : ScriptCommand → Bool
-is_edit (change_by edit) = true
+is_edit (change_by edits grouped) = true
 is_edit (Ask asked) = false
 
 abbrev pub is_ask : ScriptCommand → Bool
-is_ask (change_by edit) = false
+is_ask (change_by edits grouped) = false
 is_ask (Ask asked) = true
 
 edits_from : (n seed a k : ℕ)

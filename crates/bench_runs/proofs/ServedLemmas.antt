@@ -61,34 +61,35 @@ front_on : (history more found : List HistoryEntry) (front : ℕ) → IsPrefix h
 front_on history more found front longer at =
     record { beginning = prefix_on found history more at.beginning longer; counts = at.counts }
 
-edit_ends_on : (f : Framework) (limit s : ℕ) (history more : List HistoryEntry) (edit : Edit) (front : ℕ) (body : Body)
-    → IsPrefix history more → EditEnds f limit s history edit front body → EditEnds f limit s more edit front body
-edit_ends_on f limit s history more edit front (Done effect) longer h = record {
+edit_ends_on : (grouped : Bool) (f : Framework) (limit s : ℕ) (history more : List HistoryEntry) (edits : List Edit)
+    (front : ℕ) (body : Body) → IsPrefix history more → EditEnds grouped f limit s history edits front body
+    → EditEnds grouped f limit s more edits front body
+edit_ends_on grouped f limit s history more edits front (Done effects) longer h = record {
   found = h.found;
-  at = front_on history more (h.found ++ entry_by s edit ∷ []) front longer h.at;
+  at = front_on history more (h.found ++ entry_by s edits ∷ []) front longer h.at;
   taken = h.taken;
 }
-edit_ends_on f limit s history more edit front (EditRefused fault) longer h =
+edit_ends_on grouped f limit s history more edits front (EditRefused told fault) longer h =
     record {
       found = h.found;
       at = front_on history more h.found front longer h.at;
       room = h.room;
       refused = h.refused;
     }
-edit_ends_on f limit s history more edit front Full longer h =
+edit_ends_on grouped f limit s history more edits front Full longer h =
     record { found = h.found; at = front_on history more h.found front longer h.at; full = h.full }
-edit_ends_on f limit s history more edit front (Answered answer certificate) longer h = absurd h
-edit_ends_on f limit s history more edit front (QueryRefused fault) longer h = absurd h
-edit_ends_on f limit s history more edit front (Unknown count) longer h = absurd h
-edit_ends_on f limit s history more edit front TooMany longer h = absurd h
-edit_ends_on f limit s history more edit front LogFull longer h = absurd h
+edit_ends_on grouped f limit s history more edits front (Answered answer certificate) longer h = absurd h
+edit_ends_on grouped f limit s history more edits front (QueryRefused fault) longer h = absurd h
+edit_ends_on grouped f limit s history more edits front (Unknown count) longer h = absurd h
+edit_ends_on grouped f limit s history more edits front TooMany longer h = absurd h
+edit_ends_on grouped f limit s history more edits front LogFull longer h = absurd h
 
 pub ends_on : (f : Framework) (limit budget s : ℕ) (history more : List HistoryEntry) (log grown : OracleLog)
     (answers kept : List KeptAnswer) (command : ScriptCommand) (front : ℕ) (body : Body)
     → GoesOn history more log grown answers kept → CommandEnds f limit budget s history log answers command front body
     → CommandEnds f limit budget s more grown kept command front body
-ends_on f limit budget s history more log grown answers kept (change_by edit) front body on h =
-    edit_ends_on f limit s history more edit front body on.longer h
+ends_on f limit budget s history more log grown answers kept (change_by edits grouped) front body on h =
+    edit_ends_on grouped f limit s history more edits front body on.longer h
 ends_on f limit budget s history more log grown answers kept (Ask asked) front body on h = record {
   found = h.found;
   at = front_on history more h.found front on.longer h.at;

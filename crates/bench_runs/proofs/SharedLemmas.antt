@@ -7,6 +7,7 @@ use Rattle.std.proofs.lemmas.List.{get_or_append_left, get_or_push, length_push}
 use Rattle.std.proofs.lemmas.List.Elements.{Contains-append_left, Contains-push}
 use Rattle.semantics.specs.Frameworks.{Framework}
 use Rattle.meaning_atoms.specs.declared.axiom.AxiomName.{AxiomName}
+use Rattle.edit_rules.specs.declared.edit.Edit.{Edit}
 use Rattle.edit_history.specs.declared.entry.HistoryEntry.{HistoryEntry}
 use Rattle.edit_history.specs.Entries.{framework_after}
 use Rattle.oracle_face.specs.declared.entry.Entry.{Entry}
@@ -89,13 +90,13 @@ module _ (f : Framework) (own : ℕ) (answers : List KeptAnswer) (kept : KeptAns
   steps_given a b (one_more _ mid _ before last) given = step_given mid b last (steps_given a mid before given)
 
 -- axioms that are needed, one after the other
-needed_given : (answers : List KeptAnswer) (f : Framework) (entries : List HistoryEntry) (names : List AxiomName)
-    (a b : OracleLog) → AddsNeededAfter f entries names a b → ImportsAreGiven answers a → ImportsAreGiven answers b
-needed_given answers f entries [] a b adds given = subst (ImportsAreGiven answers) (sym adds) given
-needed_given answers f entries (name ∷ names) a b adds given =
+needed_given : (answers : List KeptAnswer) (f : Framework) (edits : List Edit) (names : List AxiomName)
+    (a b : OracleLog) → AddsNeededAfter f edits names a b → ImportsAreGiven answers a → ImportsAreGiven answers b
+needed_given answers f edits [] a b adds given = subst (ImportsAreGiven answers) (sym adds) given
+needed_given answers f edits (name ∷ names) a b adds given =
     let takes = adds.1.takes in
     let step = own_step takes.clause (by_axiom name) in
-    needed_given answers f entries names adds.0 b adds.2
+    needed_given answers f edits names adds.0 b adds.2
     (each_more (IsGivenStep answers) a adds.0 step takes.takes.gains.steps (own_given answers step refl) given)
 
 -- what was given is so where more is kept
@@ -117,7 +118,7 @@ given_more answers more log given k high name imported =
 line_given : (f : Framework) (limit budget s : ℕ) (command : ScriptCommand) (old new : Stand) (reply : Reply)
     → DoesCommand f limit budget s command old reply new → ImportsAreGiven old.answers old.log
     → ImportsAreGiven new.answers new.log
-line_given f limit budget s (change_by edit) old new reply does given =
+line_given f limit budget s (change_by edits grouped) old new reply does given =
     subst (ImportsAreGiven new.answers) (sym does.log)
     (subst (λ answers. ImportsAreGiven answers old.log) (sym does.answers) given)
 line_given f limit budget s (Ask asked) old new reply does given =

@@ -49,14 +49,14 @@ asked_one : (f : Framework) (limit budget s : ℕ) (history : List HistoryEntry)
     (command : ScriptCommand) (front : ℕ) (body : Body) → CommandEnds f limit budget s history log answers command front
     body
     → is_told_query body ≡ is_ask command
-asked_one f limit budget s history log answers (change_by edit) front (Done effect) h = refl
-asked_one f limit budget s history log answers (change_by edit) front (EditRefused fault) h = refl
-asked_one f limit budget s history log answers (change_by edit) front Full h = refl
-asked_one f limit budget s history log answers (change_by edit) front (Answered answer certificate) h = absurd h
-asked_one f limit budget s history log answers (change_by edit) front (QueryRefused fault) h = absurd h
-asked_one f limit budget s history log answers (change_by edit) front (Unknown count) h = absurd h
-asked_one f limit budget s history log answers (change_by edit) front TooMany h = absurd h
-asked_one f limit budget s history log answers (change_by edit) front LogFull h = absurd h
+asked_one f limit budget s history log answers (change_by edits grouped) front (Done effects) h = refl
+asked_one f limit budget s history log answers (change_by edits grouped) front (EditRefused told fault) h = refl
+asked_one f limit budget s history log answers (change_by edits grouped) front Full h = refl
+asked_one f limit budget s history log answers (change_by edits grouped) front (Answered answer certificate) h = absurd h
+asked_one f limit budget s history log answers (change_by edits grouped) front (QueryRefused fault) h = absurd h
+asked_one f limit budget s history log answers (change_by edits grouped) front (Unknown count) h = absurd h
+asked_one f limit budget s history log answers (change_by edits grouped) front TooMany h = absurd h
+asked_one f limit budget s history log answers (change_by edits grouped) front LogFull h = absurd h
 asked_one f limit budget s history log answers (Ask asked) front (Done effect) h = absurd h.replied.says
 asked_one f limit budget s history log answers (Ask asked) front (EditRefused fault) h = absurd h.replied.says
 asked_one f limit budget s history log answers (Ask asked) front Full h = absurd h.replied.says
@@ -95,7 +95,7 @@ none_rejected : (f : Framework) (limit budget s : ℕ) (history : List HistoryEn
     (command : ScriptCommand) (front : ℕ) (body : Body) (count : ℕ)
     → CommandEnds f limit budget s history log answers command front body
     → IsRejection (framework_after f (take front history)) command body count → count ≡ 0
-none_rejected f limit budget s history log answers (change_by edit) front body count h is = is
+none_rejected f limit budget s history log answers (change_by edits grouped) front body count h is = is
 none_rejected f limit budget s history log answers (Ask asked) front (Done effect) count h is = is
 none_rejected f limit budget s history log answers (Ask asked) front (EditRefused fault) count h is = is
 none_rejected f limit budget s history log answers (Ask asked) front Full count h is = is

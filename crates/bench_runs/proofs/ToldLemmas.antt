@@ -12,7 +12,7 @@ use Rattle.edit_rules.specs.declared.edit.Edit.{Edit}
 use Rattle.turn_lock.specs.Turns.{entries_of}
 use Rattle.edit_history.specs.declared.entry.HistoryEntry.{HistoryEntry}
 use Rattle.edit_history.specs.declared.hub.Hub.{Hub}
-use Rattle.edit_history.specs.Entries.{framework_after, session_of}
+use Rattle.edit_history.specs.Entries.{IsGroup, framework_after, session_of}
 use Rattle.edit_history.specs.Hubs.{GainsOthers, limit_of, start_of}
 use Rattle.session_core.specs.oracle_core.specs.Trading.{AnySide}
 use Rattle.oracle_face.specs.Growing.{Grows, NoSide}
@@ -45,27 +45,28 @@ same_prefix : {X : Type 0} → (xs : List X) → IsPrefix xs xs
 same_prefix xs = ([], append-nil xs)
 
 -- what an edit was told, over plain values
-record EditTold (f : Framework) (limit s : ℕ) (edit : Edit) (before now : List HistoryEntry) (front : ℕ) (body : Body)
-    : Type 0 where
+record EditTold (grouped : Bool) (f : Framework) (limit s : ℕ) (edits : List Edit) (before now : List HistoryEntry)
+    (front : ℕ) (body : Body) : Type 0 where
   longer : IsPrefix before now
-  ends : EditEnds f limit s now edit front body
-  own : entries_of session_of s now ≡ entries_of session_of s before ++ made_by s (change_by edit) body
+  ends : EditEnds grouped f limit s now edits front body
+  own : entries_of session_of s now ≡ entries_of session_of s before ++ made_by s (change_by edits grouped) body
 
-others_told : (f : Framework) (limit s : ℕ) (edit : Edit) (before now : List HistoryEntry) (front : ℕ) (body : Body)
-    → GainsOthers s before now → EditEnds f limit s now edit front body → made_by s (change_by edit) body ≡ []
-    → EditTold f limit s edit before now front body
-others_told f limit s edit before now front body gained ends none = record {
+others_told : (grouped : Bool) (f : Framework) (limit s : ℕ) (edits : List Edit) (before now : List HistoryEntry)
+    (front : ℕ) (body : Body) → GainsOthers s before now → EditEnds grouped f limit s now edits front body
+    → made_by s (change_by edits grouped) body ≡ [] → EditTold grouped f limit s edits before now front body
+others_told grouped f limit s edits before now front body gained ends none = record {
   longer = gained.longer;
   ends = ends;
   own = gained.own ∙ (sym (append-nil (entries_of session_of s before))
       ∙ ap (λ l. entries_of session_of s before ++ l) (sym none));
 }
 
-edit_told : (f : Framework) (limit s : ℕ) (edit : Edit) (before now : List HistoryEntry) (front : ℕ) (body : Body)
-    → front ≡ length now → EditSays limit f s edit before now body → EditTold f limit s edit before now front body
-edit_told f limit s edit before now front (Done effect) at says =
+edit_told : (grouped : Bool) (f : Framework) (limit s : ℕ) (edits : List Edit) (before now : List HistoryEntry)
+    (front : ℕ) (body : Body) → front ≡ length now → EditSays grouped limit f s edits before now body
+    → EditTold grouped f limit s edits before now front body
+edit_told grouped f limit s edits before now front (Done effects) at says =
     let found = says.found in
-    let entry = entry_by s edit in
+    let entry = entry_by s edits in
     let same : (session_of entry == s) ≡ true = grind (arith, nat_tests) in
     record {
       longer = prefix_on before found now says.gained.longer (entry ∷ [], sym says.added.longer);
@@ -83,29 +84,30 @@ edit_told f limit s edit before now front (Done effect) at says =
           same)
           ∙ ap (λ l. l ++ entry ∷ []) says.gained.own));
     }
-edit_told f limit s edit before now front (EditRefused fault) at says =
-    others_told f limit s edit before now front (EditRefused fault) says.0
+edit_told grouped f limit s edits before now front (EditRefused told fault) at says =
+    others_told grouped f limit s edits before now front (EditRefused told fault) says.0
     (record {
       found = now;
       at = record { beginning = same_prefix now; counts = at };
-      room = let room = says.1 in omega (arith, room, at);
+      room = says.1;
       refused = says.2;
     }) refl
-edit_told f limit s edit before now front Full at says =
-    others_told f limit s edit before now front Full says.0
-    (record { found = now; at = record { beginning = same_prefix now; counts = at }; full = at ∙ says.1 }) refl
-edit_told f limit s edit before now front (Answered answer certificate) at says = absurd says
-edit_told f limit s edit before now front (QueryRefused fault) at says = absurd says
-edit_told f limit s edit before now front (Unknown count) at says = absurd says
-edit_told f limit s edit before now front TooMany at says = absurd says
-edit_told f limit s edit before now front LogFull at says = absurd says
+edit_told grouped f limit s edits before now front Full at says =
+    others_told grouped f limit s edits before now front Full says.0
+    (record { found = now; at = record { beginning = same_prefix now; counts = at }; full = says.1 }) refl
+edit_told grouped f limit s edits before now front (Answered answer certificate) at says = absurd says
+edit_told grouped f limit s edits before now front (QueryRefused fault) at says = absurd says
+edit_told grouped f limit s edits before now front (Unknown count) at says = absurd says
+edit_told grouped f limit s edits before now front TooMany at says = absurd says
+edit_told grouped f limit s edits before now front LogFull at says = absurd says
 
--- an edit leaves the engine and what is kept of queries as they are
-done_edit : (f : Framework) (limit budget s : ℕ) (edit : Edit) (old new : Stand) (reply : Reply)
-    → DoesEdit f limit s edit old reply new → IsDoneAt f limit budget s (change_by edit) old reply new
-done_edit f limit budget s edit old new reply does =
+-- edits leave the engine and what is kept of queries as they are
+done_edit : (grouped : Bool) (f : Framework) (limit budget s : ℕ) (edits : List Edit) (old new : Stand) (reply : Reply)
+    → DoesEdit grouped f limit s edits old reply new
+    → IsDoneAt f limit budget s (change_by edits grouped) old reply new
+done_edit grouped f limit budget s edits old new reply does =
     let told = does.told in
-    let h = edit_told f limit s edit old.seen new.seen reply.front reply.body told.front told.says in
+    let h = edit_told grouped f limit s edits old.seen new.seen reply.front reply.body told.front told.says in
     record {
       on = record {
         longer = h.longer;
@@ -148,7 +150,8 @@ done_query f limit budget s asked old new reply h = record {
 
 pub done_at : (f : Framework) (limit budget s : ℕ) (command : ScriptCommand) (old new : Stand) (reply : Reply)
     → DoesCommand f limit budget s command old reply new → IsDoneAt f limit budget s command old reply new
-done_at f limit budget s (change_by edit) old new reply does = done_edit f limit budget s edit old new reply does
+done_at f limit budget s (change_by edits grouped) old new reply does =
+    done_edit grouped f limit budget s edits old new reply does
 done_at f limit budget s (Ask asked) old new reply does = done_query f limit budget s asked old new reply does
 
 pub done_by : (f : Framework) (limit budget s : ℕ) (lines : List ScriptLine) (old new : Stand) (replies : List Reply)
@@ -185,11 +188,13 @@ walked_served f limit budget s lines replies history end walks gained =
 
 -- ---- what a session does
 
-pub told_of_edit : (hub : Hub) (budget : ℕ) (edit : Edit) (old new : Session) (reply : Reply)
-    → IsEditReply (limit_of hub) (start_of hub) old.number edit (seen_by old) (seen_by new) reply
+pub told_of_edit : (hub : Hub) (budget : ℕ) (grouped : Bool) (edits : List Edit) (old new : Session) (reply : Reply)
+    → IsGroup edits
+    → IsEditReply grouped (limit_of hub) (start_of hub) old.number edits (seen_by old) (seen_by new) reply
     → new.engine ≡ old.engine → new.followed ≡ old.followed → new.answers ≡ old.answers
-    → IsTold hub budget (change_by edit) old new reply
-told_of_edit hub budget edit old new reply said engine followed answers = record {
+    → IsTold hub budget (change_by edits grouped) old new reply
+told_of_edit hub budget grouped edits old new reply group said engine followed answers = record {
+  group = group;
   told = said;
   followed = followed;
   log = ap (λ (e : EngineState). e.log) engine;

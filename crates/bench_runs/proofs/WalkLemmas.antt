@@ -100,7 +100,7 @@ recorded_next : (f : Framework) (limit budget s : ℕ) (command : ScriptCommand)
     (lines : List ScriptLine)
     (reply : Reply) (old mid new : Stand) → line.command ≡ command
     → DoesCommand f limit budget s command old reply mid → Recorded lines mid new → Recorded (line ∷ lines) old new
-recorded_next f limit budget s (change_by edit) line lines reply old mid new is does rest = record {
+recorded_next f limit budget s (change_by edits grouped) line lines reply old mid new is does rest = record {
   added = rest.added;
   answers = rest.answers ∙ ap (λ l. l ++ rest.added) does.answers;
   one_each = rest.one_each ∙ sym (count_no (λ (l : ScriptLine). is_query l.command) line lines (ap is_query is));

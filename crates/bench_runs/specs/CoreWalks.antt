@@ -32,7 +32,7 @@ use Rattle.bench_runs.specs.Walks.{at_start}
 
 -- the commits by which entries come
 abbrev pub commits_of : List HistoryEntry → List Event
-commits_of entries = map (λ (e : HistoryEntry). commit e.session e.edit) entries
+commits_of entries = map (λ (e : HistoryEntry). commit e.session e.edits) entries
 
 -- a query's events: a refresh, steps of the session's own log, and the answer that the reply tells
 pub record AreQueryEvents (s budget : ℕ) (asked : Asked) (said : Body) (events : List Event) : Type 0 where
@@ -45,7 +45,7 @@ pub record AreQueryEvents (s budget : ℕ) (asked : Asked) (said : Body) (events
 
 -- a session's events for a line that has this reply
 abbrev pub AreEventsOf : ℕ → ℕ → ScriptCommand → Body → List Event → Type 0
-AreEventsOf s budget (change_by edit) said events = events ≡ commit s edit ∷ []
+AreEventsOf s budget (change_by edits grouped) said events = events ≡ commit s edits ∷ []
 AreEventsOf s budget (Ask asked) said events = AreQueryEvents s budget asked said events
 
 -- entries of other sessions come, and then the session's events for a line with this reply: they add the entry that the

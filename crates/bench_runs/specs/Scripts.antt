@@ -1,11 +1,12 @@
 -- The script of a large input: which session does what.
-use Rattle.std.specs.Prelude.{ℕ, ◌+◌, ◌-◌, ◌%◌, min, List, [], ◌∷◌, map, Some}
+use Rattle.std.specs.Prelude.{ℕ, ◌+◌, ◌-◌, ◌%◌, min, false, List, [], ◌∷◌, map, Some}
 use Rattle.std.specs.List.{flat_map, range_with_len}
 use Rattle.iccma_tasks.specs.declared.task.Problem.{Problem}
 use Rattle.iccma_tasks.specs.declared.task.Problem.TheVariants.{Credulous, Sceptical}
 use Rattle.iccma_tasks.specs.declared.task.Semantics.{Semantics}
 use Rattle.iccma_tasks.specs.declared.task.Semantics.TheVariants.{Complete, Preferred}
 use Rattle.iccma_tasks.specs.Tasks.{Asked, task_of}
+use Rattle.edit_rules.specs.declared.edit.Edit.{Edit}
 use Rattle.edit_rules.specs.declared.edit.Edit.TheVariants.{AttackAdd, AttackDrop}
 use Rattle.script_text.specs.declared.script.ScriptCommand.{ScriptCommand}
 use Rattle.script_text.specs.declared.script.ScriptCommand.TheVariants.{Edit as change_by, Ask}
@@ -22,12 +23,16 @@ session_for a = 1 + (a - 1) % BENCH_SESSIONS
 abbrev pub asked_of : Problem → Semantics → ℕ → Asked
 asked_of problem semantics a = record { task = task_of problem semantics; number = Some a }
 
+-- an edit that is made alone
+abbrev pub single : Edit → ScriptCommand
+single edit = change_by (edit ∷ []) false
+
 -- what is done for an argument with a first attacker: that attack goes, DC-CO is asked, the attack comes again, and
 -- DS-PR is asked
 abbrev pub commands_for : ℕ → ℕ → List ScriptCommand
 commands_for b a =
-    change_by (AttackDrop b a) ∷ Ask (asked_of Credulous Complete a)
-    ∷ change_by (AttackAdd b a) ∷ Ask (asked_of Sceptical Preferred a) ∷ []
+    single (AttackDrop b a) ∷ Ask (asked_of Credulous Complete a)
+    ∷ single (AttackAdd b a) ∷ Ask (asked_of Sceptical Preferred a) ∷ []
 
 abbrev pub line_for : ℕ → ScriptCommand → ScriptLine
 line_for a command = record { session = session_for a; command = command }

@@ -1,5 +1,5 @@
 -- What one session is told of the lines of its script.
-use Rattle.std.specs.Prelude.{◌≡◌, ℕ, ◌==◌, ◌<◌, ◌≤◌, List, [], ◌∷◌, ◌++◌, length, filter, Contains, Err}
+use Rattle.std.specs.Prelude.{◌≡◌, ℕ, ◌==◌, ◌+◌, ◌<◌, ◌≤◌, Bool, List, [], ◌∷◌, ◌++◌, length, filter, Contains, Ok}
 use Rattle.std.specs.List.{AllZip}
 use mathlib.Core.List.{IsPrefix}
 use Rattle.semantics.specs.Frameworks.{Framework}
@@ -7,11 +7,10 @@ use Rattle.iccma_tasks.specs.Tasks.{Asked}
 use Rattle.edit_rules.specs.declared.edit.Edit.{Edit}
 use Rattle.edit_rules.specs.declared.effect.Effect.{Effect}
 use Rattle.edit_rules.specs.declared.effect.EditFault.{EditFault}
-use Rattle.edit_rules.specs.Edits.{edit_outcome}
-use Rattle.edit_rules.specs.Replay.{IsTaken}
+use Rattle.edit_rules.specs.Groups.{group_told}
 use Rattle.turn_lock.specs.Turns.{entries_of}
 use Rattle.edit_history.specs.declared.entry.HistoryEntry.{HistoryEntry}
-use Rattle.edit_history.specs.Entries.{framework_after, session_of}
+use Rattle.edit_history.specs.Entries.{edit_count, framework_after, session_of}
 use Rattle.script_text.specs.declared.script.ScriptCommand.{ScriptCommand}
 use Rattle.script_text.specs.declared.script.ScriptCommand.TheVariants.{Edit as change_by, Ask}
 use Rattle.script_text.specs.declared.script.ScriptLine.{ScriptLine}
@@ -21,7 +20,7 @@ use Rattle.session_replies.specs.declared.reply.Reply.{Reply}
 use Rattle.session_core.specs.oracle_core.specs.Trading.{AnySide}
 use Rattle.oracle_face.specs.Growing.{Grows}
 use Rattle.oracle_face.specs.Logs.{OracleLog}
-use Rattle.session_core.specs.Replies.{IsKeptOf, IsReplied}
+use Rattle.session_core.specs.Replies.{IsKeptOf, IsRefusal, IsReplied}
 use Rattle.session_core.specs.declared.kept.KeptAnswer.{KeptAnswer}
 use Rattle.bench_runs.specs.Walks.{HasWalked}
 
@@ -38,37 +37,37 @@ pub record IsFront (history found : List HistoryEntry) (front : ℕ) : Type 0 wh
   pub beginning : IsPrefix found history
   pub counts : front ≡ length found
 
-abbrev pub entry_by : ℕ → Edit → HistoryEntry
-entry_by s edit = record { session = s; edit = edit }
+abbrev pub entry_by : ℕ → List Edit → HistoryEntry
+entry_by s edits = record { session = s; edits = edits }
 
--- the last entry up to the front is the session's edit, which was taken with this effect behind those before it
-pub record TakesEdit (f : Framework) (s : ℕ) (history : List HistoryEntry) (edit : Edit) (front : ℕ) (effect : Effect)
-    : Type 0 where
+-- the last entry up to the front is the session's group, which was taken with these effects behind those before it
+pub record TakesGroup (f : Framework) (s : ℕ) (history : List HistoryEntry) (edits : List Edit) (front : ℕ)
+    (effects : List Effect) : Type 0 where
   pub found : List HistoryEntry
-  pub at : IsFront history (found ++ entry_by s edit ∷ []) front
-  pub taken : IsTaken (framework_after f found) edit effect
+  pub at : IsFront history (found ++ entry_by s edits ∷ []) front
+  pub taken : group_told (framework_after f found) edits ≡ Ok effects
 
--- the history has room, and the framework behind the entries up to the front refuses the edit so
-pub record RefusesEdit (f : Framework) (limit : ℕ) (history : List HistoryEntry) (edit : Edit) (front : ℕ)
-    (fault : EditFault)
-    : Type 0 where
-  pub found : List HistoryEntry
-  pub at : IsFront history found front
-  pub room : front < limit
-  pub refused : edit_outcome (framework_after f found) edit ≡ Err fault
-
--- the history has as many entries as it may have
-pub record IsFull (limit : ℕ) (history : List HistoryEntry) (front : ℕ) : Type 0 where
+-- the history has room, and the framework behind the entries up to the front refuses the group so
+pub record RefusesGroup (grouped : Bool) (f : Framework) (limit : ℕ) (history : List HistoryEntry) (edits : List Edit)
+    (front told : ℕ) (fault : EditFault) : Type 0 where
   pub found : List HistoryEntry
   pub at : IsFront history found front
-  pub full : front ≡ limit
+  pub room : edit_count found + length edits ≤ limit
+  pub refused : IsRefusal grouped (framework_after f found) edits told fault
 
--- what an edit may be told
-abbrev pub EditEnds : Framework → ℕ → ℕ → List HistoryEntry → Edit → ℕ → Body → Type 0
-EditEnds f limit s history edit front (Done effect) = TakesEdit f s history edit front effect
-EditEnds f limit s history edit front (EditRefused fault) = RefusesEdit f limit history edit front fault
-EditEnds f limit s history edit front Full = IsFull limit history front
-EditEnds f limit s history edit front _ = ⊥
+-- the history has no room for so many edits more
+pub record IsFull (limit : ℕ) (history : List HistoryEntry) (edits : List Edit) (front : ℕ) : Type 0 where
+  pub found : List HistoryEntry
+  pub at : IsFront history found front
+  pub full : limit < edit_count found + length edits
+
+-- what a group of edits may be told
+abbrev pub EditEnds : Bool → Framework → ℕ → ℕ → List HistoryEntry → List Edit → ℕ → Body → Type 0
+EditEnds grouped f limit s history edits front (Done effects) = TakesGroup f s history edits front effects
+EditEnds grouped f limit s history edits front (EditRefused told fault) =
+    RefusesGroup grouped f limit history edits front told fault
+EditEnds grouped f limit s history edits front Full = IsFull limit history edits front
+EditEnds grouped f limit s history edits front _ = ⊥
 
 -- a query has this reply on the framework behind the entries up to the front, by what the log had before it and behind
 -- it; the log has only grown since, and what is kept of the query is listed
@@ -88,8 +87,8 @@ pub record AnswersQuery (f : Framework) (budget : ℕ) (history : List HistoryEn
 -- what a line of the script may be told
 abbrev pub CommandEnds : Framework → ℕ → ℕ → ℕ → List HistoryEntry → OracleLog → List KeptAnswer → ScriptCommand → ℕ →
     Body → Type 0
-CommandEnds f limit budget s history log answers (change_by edit) front body =
-    EditEnds f limit s history edit front body
+CommandEnds f limit budget s history log answers (change_by edits grouped) front body =
+    EditEnds grouped f limit s history edits front body
 CommandEnds f limit budget s history log answers (Ask asked) front body =
     AnswersQuery f budget history log answers asked front body
 
@@ -107,7 +106,7 @@ FrontsRise low (reply ∷ more) high = (low ≤ reply.front) × FrontsRise reply
 
 -- the entry that a line made, if it did
 abbrev pub made_by : ℕ → ScriptCommand → Body → List HistoryEntry
-made_by s (change_by edit) (Done effect) = entry_by s edit ∷ []
+made_by s (change_by edits grouped) (Done effects) = entry_by s edits ∷ []
 made_by s command body = []
 
 -- the entries that lines made, in order
@@ -116,7 +115,7 @@ entries_made s (line ∷ lines) (reply ∷ replies) = made_by s line.command rep
 entries_made s lines replies = []
 
 -- a session of these lines: it walked them in order, each from where the one before left it. So each is told something
--- that is so; the fronts never fall; and the session's entries in the history are the edits that were taken
+-- that is so; the fronts never fall; and the session's entries in the history are the groups that were taken
 pub record IsServed (f : Framework) (limit budget s : ℕ) (lines : List ScriptLine) (history : List HistoryEntry)
     (log : OracleLog) (answers : List KeptAnswer) (replies : List Reply) : Type 0 where
   pub each : AllZip (LineEnds f limit budget s history log answers) lines replies

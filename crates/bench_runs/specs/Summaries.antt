@@ -53,8 +53,8 @@ summary n seed = counts_text (bench_counts n seed)
 
 -- the reply is one to a query
 abbrev pub is_told_query : Body → Bool
-is_told_query (Done effect) = false
-is_told_query (EditRefused fault) = false
+is_told_query (Done effects) = false
+is_told_query (EditRefused place fault) = false
 is_told_query Full = false
 is_told_query _ = true
 

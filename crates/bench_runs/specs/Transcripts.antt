@@ -2,7 +2,7 @@
 use Rattle.std.specs.Prelude.{◌≡◌, ◌⊎◌, ℕ, ◌+◌, ◌<◌, ◌≤◌, List, All, Contains, length, slice_index_or}
 use Rattle.semantics.specs.Frameworks.{Framework, IsNumbered}
 use Rattle.edit_rules.specs.Kinds.{framework_of}
-use Rattle.edit_history.specs.Entries.{AreDone, entries_in}
+use Rattle.edit_history.specs.Entries.{AreDone, edit_count, entries_in}
 use Rattle.script_text.specs.declared.script.Script.{Script}
 use Rattle.script_text.specs.declared.script.ScriptLine.{ScriptLine}
 use Rattle.session_core.specs.declared.kept.Kept.{Kept}
@@ -23,7 +23,7 @@ pub record AreSessions (lines : List ScriptLine) (count : ℕ) : Type 0 where
 pub record IsTranscriptOf (f : Framework) (script : Script) (budget : ℕ) (t : ScriptTranscript) : Type 0 where
   pub form : IsNumbered f
   pub opening : framework_of t.history.opening ≡ f
-  pub within : length t.history.entries.items ≤ MAX_HISTORY
+  pub within : edit_count (entries_in t.history.entries.items) ≤ MAX_HISTORY
   pub taken : AreDone f t.history.entries.items
   pub sessions : ℕ
   pub sessions_are : AreSessions script.lines sessions

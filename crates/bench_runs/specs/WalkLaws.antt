@@ -33,7 +33,7 @@ FrontsAreMade = (f : Framework) (limit budget s : ℕ) (lines : List ScriptLine)
 -- ---- what is kept of queries
 
 abbrev pub is_query : ScriptCommand → Bool
-is_query (change_by edit) = false
+is_query (change_by edits grouped) = false
 is_query (Ask asked) = true
 
 -- the stretches of the log that the records name stand one behind the other, from the one length to the other
@@ -61,12 +61,12 @@ pub record AreOfOne (g : Framework) (asked : Asked) (one two : Reply) : Type 0 w
   pub first : (log : OracleLog) × QuerySays g asked log one.body
   pub second : (log : OracleLog) × QuerySays g asked log two.body
 
--- two replies to an edit are the same; two replies to a query are told of one framework
+-- two replies to a group of edits are the same; two replies to a query are told of one framework
 abbrev pub IsAlike : Framework → ScriptCommand → Reply → Reply → Type 0
-IsAlike g (change_by edit) one two = one ≡ two
+IsAlike g (change_by edits grouped) one two = one ≡ two
 IsAlike g (Ask asked) one two = AreOfOne g asked one two
 
--- so are the replies to lines, where these edits were taken before
+-- so are the replies to lines, where these groups were taken before
 abbrev pub AreAlike : Framework → ℕ → List HistoryEntry → List ScriptLine → List Reply → List Reply → Type 0
 AreAlike f s made [] [] [] = Unit {0}
 AreAlike f s made (line ∷ lines) (one ∷ ones) (two ∷ twos) =

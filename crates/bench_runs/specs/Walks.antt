@@ -1,10 +1,10 @@
 -- A session's way through its lines: what it does at each of them, from where the one before left it.
-use Rattle.std.specs.Prelude.{◌≡◌, ℕ, List, [], ◌∷◌, ◌++◌, length, map, take, drop}
+use Rattle.std.specs.Prelude.{◌≡◌, ℕ, Bool, List, [], ◌∷◌, ◌++◌, length, map, take, drop}
 use Rattle.semantics.specs.Frameworks.{Framework}
 use Rattle.iccma_tasks.specs.Tasks.{Asked}
 use Rattle.edit_rules.specs.declared.edit.Edit.{Edit}
 use Rattle.edit_history.specs.declared.entry.HistoryEntry.{HistoryEntry}
-use Rattle.edit_history.specs.Entries.{framework_after}
+use Rattle.edit_history.specs.Entries.{IsGroup, edits_of, framework_after}
 use Rattle.edit_history.specs.Hubs.{GainsOthers}
 use Rattle.oracle_face.specs.Logs.{OracleLog}
 use Rattle.clause_pool.specs.Pools.{entry_of}
@@ -34,10 +34,11 @@ at_start most = record {
   answers = [];
 }
 
--- an edit is told of the history as it then is; the engine and what was kept stay
-pub record DoesEdit (f : Framework) (limit s : ℕ) (edit : Edit) (old : Stand) (reply : Reply) (new : Stand)
-    : Type 0 where
-  pub told : IsEditReply limit f s edit old.seen new.seen reply
+-- a group of edits is told of the history as it then is; the engine and what was kept stay
+pub record DoesEdit (grouped : Bool) (f : Framework) (limit s : ℕ) (edits : List Edit) (old : Stand) (reply : Reply)
+    (new : Stand) : Type 0 where
+  pub group : IsGroup edits
+  pub told : IsEditReply grouped limit f s edits old.seen new.seen reply
   pub followed : new.followed ≡ old.followed
   pub log : new.log ≡ old.log
   pub answers : new.answers ≡ old.answers
@@ -51,8 +52,8 @@ pub record DoesQuery (f : Framework) (budget s : ℕ) (asked : Asked) (old : Sta
   pub front : reply.front ≡ length new.seen
   pub followed : new.followed ≡ length new.seen
   pub before : OracleLog
-  pub catches_up : CatchesUp (framework_after f (take old.followed new.seen)) (drop old.followed new.seen) old.log
-      before
+  pub catches_up : CatchesUp (framework_after f (take old.followed new.seen)) (edits_of (drop old.followed new.seen))
+      old.log before
   pub used : ℕ
   pub kept : KeptAnswer
   pub replied : IsReplied (framework_after f new.seen) asked budget before new.log kept.pending used reply.body
@@ -63,7 +64,7 @@ pub record DoesQuery (f : Framework) (budget s : ℕ) (asked : Asked) (old : Sta
 
 -- what a line says is done
 abbrev pub DoesCommand : Framework → ℕ → ℕ → ℕ → ScriptCommand → Stand → Reply → Stand → Type 0
-DoesCommand f limit budget s (change_by edit) old reply new = DoesEdit f limit s edit old reply new
+DoesCommand f limit budget s (change_by edits grouped) old reply new = DoesEdit grouped f limit s edits old reply new
 DoesCommand f limit budget s (Ask asked) old reply new = DoesQuery f budget s asked old reply new
 
 -- the lines are done one after the other, each from where the one before left the session, with these replies

@@ -3,11 +3,11 @@
 ghost use Rattle.std.specs.Prelude.{◌≡◌, ◌≤◌, OnOk, length, take};
 ghost use Rattle.semantics.specs.Frameworks.{Framework as AnyFramework};
 ghost use Rattle.edit_rules.specs.Kinds.{framework_of};
-ghost use Rattle.edit_rules.specs.Replay.{after_edit};
-ghost use Rattle.edit_history.specs.Entries.{entries_in, framework_after};
+ghost use Rattle.edit_rules.specs.Replay.{after_edit, replay};
+ghost use Rattle.edit_history.specs.Entries.{edits_in, entries_in, framework_after};
 
 use edit_history::Change;
-use edit_rules::{Edit, Framework, apply};
+use edit_rules::{Edit, Effect, Framework, apply};
 use lists::Memory;
 use std::alloc::Global;
 
@@ -19,6 +19,17 @@ fn redo(alloc: Global, framework: &mut Framework, edit: &Edit) -> Result<(), Mem
         Ok(_effect) => Ok(()),
         Err(_fault) => Err(Memory),
     }
+}
+
+/// Changes a framework by the edits of a group that was taken there before.
+fn redo_group(alloc: Global, framework: &mut Framework, effects: &[Effect]) -> Result<(), Memory>
+    ensures { OnOk result (framework_of framework.new
+        ≡ replay (framework_of framework.old) (edits_in effects.now)) }
+{
+    for effect in effects {
+        redo(alloc, framework, &effect.edit)?;
+    }
+    Ok(())
 }
 
 /// Leads a framework from the one behind the first so many entries of a history to the one behind more of them.
@@ -36,7 +47,7 @@ pub(crate) fn lead(
         → OnOk result (framework_of framework.new ≡ framework_after f (take to (entries_in history.now))) }
 {
     for index in from..to {
-        redo(alloc, framework, &history[index].effect.edit)?;
+        redo_group(alloc, framework, history[index].effects.as_slice())?;
     }
     Ok(())
 }

@@ -88,10 +88,10 @@ impl Runner {
     {
         let number = self.session.number();
         match command {
-            ScriptCommand::Edit(edit) => {
-                let edit = edit.copy(alloc)?;
+            ScriptCommand::Edit(group, grouped) => {
                 pace.at(number, Point::BeforeEdit);
-                let reply = self.session.edit(rt, alloc, hub, edit)?;
+                let edits = group.as_slice();
+                let reply = self.session.commit(rt, alloc, hub, edits, *grouped)?;
                 pace.at(number, Point::AfterEdit);
                 Ok(reply)
             }

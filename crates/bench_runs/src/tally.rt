@@ -19,7 +19,7 @@ fn is_told_query(reply: &Reply) -> bool
     ensures { result ≡ is_query reply.now.body }
 {
     match &reply.body {
-        Body::Done(_) | Body::EditRefused(_) | Body::Full => false,
+        Body::Done(_) | Body::EditRefused(_, _) | Body::Full => false,
         _ => true,
     }
 }

@@ -9,7 +9,7 @@ use session_replies::Reply;
 /// The history that the sessions of a script made, what each of them was told and keeps, and what they shared. The
 /// sessions are those from 1 to the greatest that the script names; each has its item in both lists.
 pub struct ScriptTranscript {
-    /// The framework at the beginning, and the edits that were taken, in order.
+    /// The framework at the beginning, and the groups of edits that were taken, in order.
     pub history: History,
     /// The replies of each session, in the order of its lines.
     pub replies: Vec<Items<Reply>>,

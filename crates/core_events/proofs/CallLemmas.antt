@@ -1,14 +1,16 @@
 -- What calls for an axiom, in the core's words, and how an axiom or an entry comes.
-use Rattle.std.proofs.Common.{◌≡◌, inl, ⊎_elim, ℕ, ◌<◌, ◌≤◌, min, Bool, true, false, List, length, take, refl, ap}
+use Rattle.std.proofs.Common.{◌≡◌, inl, ⊎_elim, ℕ, ◌<◌, Bool, true, false, List, length, take, refl, ap}
 use Rattle.std.proofs.Common.{sym, subst, ◌∙◌, arith}
 use Rattle.std.specs.Prelude.{◌↔◌, IsTrue, Some, None}
 use Rattle.std.proofs.lemmas.Bool.{cases_lt, false≢true}
-use Rattle.std.proofs.lemmas.List.{length-take, take_all, take-take}
+use Rattle.std.proofs.lemmas.List.{take_all}
 use Rattle.meaning_atoms.specs.declared.atom.AtomLit.{AtomLit}
 use Rattle.meaning_atoms.specs.declared.axiom.AxiomName.{AxiomName}
 use Rattle.certificate_claims.specs.Refutations.{axiom_clause}
+use Rattle.edit_rules.specs.declared.edit.Edit.{Edit}
+use Rattle.edit_rules.specs.Replay.{replay}
 use Rattle.edit_history.specs.declared.entry.HistoryEntry.{HistoryEntry}
-use Rattle.edit_history.specs.Entries.{framework_after}
+use Rattle.edit_history.specs.Entries.{edits_of}
 use Rattle.oracle_face.specs.declared.entry.Entry.{Entry as PoolEntry}
 use Rattle.oracle_face.specs.Logs.{IsNew, LogStep, OracleLog, by_axiom, is_loop, working}
 use Rattle.oracle_face.specs.Needed.{IsNeeded}
@@ -27,51 +29,32 @@ module _ (core : Core) (s : ℕ) (name : AxiomName) where
   abbrev seen_part : List HistoryEntry
   seen_part = take (core.sessions s).seen core.history
 
-  -- fewer entries of a front are a front
-  shorter : (count : ℕ) → count ≤ (core.sessions s).seen → take count seen_part ≡ take count core.history
-  shorter count le = take-take count (core.sessions s).seen core.history le
+  abbrev seen_edits : List Edit
+  seen_edits = edits_of seen_part
 
-  long : length seen_part ≡ min (core.sessions s).seen (length core.history)
-  long = length-take (core.sessions s).seen core.history
+  needed_to : IsNeededAmong core.opening seen_edits name → IsNeededFor core s name
+  needed_to w = record { count = w.count; needed = w.needed }
 
-  needed_to : IsNeededAmong core.opening seen_part name → IsNeededFor core s name
-  needed_to w =
-      let within = w.within in
-      let le : w.count ≤ (core.sessions s).seen = omega (arith, long) in
-      record {
-        count = w.count;
-        seen = le;
-        needed = subst (λ (es : List HistoryEntry). IsNeeded (framework_after core.opening es) name)
-            (shorter w.count le)
-            w.needed;
-      }
-
-  needed_from : IsNeededFor core s name → IsNeededAmong core.opening seen_part name
+  needed_from : IsNeededFor core s name → IsNeededAmong core.opening seen_edits name
   needed_from w =
-      let seen = w.seen in
       ⊎_elim
-      (λ (more : length seen_part < w.count). record {
-        count = length seen_part;
+      (λ (more : length seen_edits < w.count). record {
+        count = length seen_edits;
         within = omega arith;
-        needed = subst (λ (es : List HistoryEntry). IsNeeded (framework_after core.opening es) name)
-            (take_all w.count core.history (omega (arith, long))
-            ∙ (sym (take_all (core.sessions s).seen core.history (omega (arith, long)))
-            ∙ sym (take_all (length seen_part) seen_part (omega arith)))) w.needed;
+        needed = subst (λ (edits : List Edit). IsNeeded (replay core.opening edits) name)
+            (take_all w.count seen_edits (omega (arith, more))
+            ∙ sym (take_all (length seen_edits) seen_edits (omega arith))) w.needed;
       })
-      (λ few. record {
-        count = w.count;
-        within = omega (arith, few);
-        needed = subst (λ (es : List HistoryEntry). IsNeeded (framework_after core.opening es) name)
-            (sym (shorter w.count w.seen)) w.needed;
-      })
-      (cases_lt (length seen_part) w.count)
+      (λ few. record { count = w.count; within = omega (arith, few); needed = w.needed })
+      (cases_lt (length seen_edits) w.count)
 
   pub called_needed : (b named : Bool) (seen : List HistoryEntry) → seen ≡ seen_part
-      → IsTrue named ↔ IsNamedInPool core name → named ≡ false → IsTrue b ↔ IsNeededAmong core.opening seen name
-      → IsTrue b ↔ IsCalledFor core s name
+      → IsTrue named ↔ IsNamedInPool core name → named ≡ false
+      → IsTrue b ↔ IsNeededAmong core.opening (edits_of seen) name → IsTrue b ↔ IsCalledFor core s name
   called_needed b named seen e hn no_ h = (
-    λ t. inl (needed_to (subst (λ (es : List HistoryEntry). IsNeededAmong core.opening es name) e (h.0 t))),
-    λ called. ⊎_elim (λ w. h.1 (subst (λ (es : List HistoryEntry). IsNeededAmong core.opening es name) (sym e)
+    λ t. inl (needed_to (subst (λ (es : List HistoryEntry). IsNeededAmong core.opening (edits_of es) name) e (h.0 t))),
+    λ called. ⊎_elim
+        (λ w. h.1 (subst (λ (es : List HistoryEntry). IsNeededAmong core.opening (edits_of es) name) (sym e)
         (needed_from w)))
         (λ w. absurd (false≢true (sym no_ ∙ hn.1 w))) called,
   )

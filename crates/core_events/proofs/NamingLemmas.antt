@@ -13,11 +13,10 @@ use Rattle.meaning_atoms.specs.Literals.{AsksNothing, negated}
 use Rattle.certificate_claims.specs.Refutations.{IsAxiomOf}
 use Rattle.oracle_face.specs.declared.entry.Entry.{Entry}
 use Rattle.oracle_face.specs.declared.entry.EntryName.{EntryName}
-use Rattle.oracle_face.specs.declared.entry.EntryOrigin.{EntryOrigin}
 use Rattle.oracle_face.specs.declared.entry.EntryOrigin.TheVariants.{Axiom as OfAxiom, Hints}
 use Rattle.oracle_face.specs.declared.entry.HintName.{HintName}
 use Rattle.oracle_face.specs.declared.entry.HintName.TheVariants.{Entry as OfEntry}
-use Rattle.oracle_face.specs.Logs.{LogStep, OracleLog, IsNumberOf, by_axiom, clauses_of, is_loop, step_at}
+use Rattle.oracle_face.specs.Logs.{LogStep, OracleLog, IsNumberOf, clauses_of, is_loop, step_at}
 use Rattle.session_log.specs.Steps.{GainsStep, axiom_step, derived_step}
 use Rattle.session_log.specs.Imports.{AreHintsOf, FollowsByNames, IsShownHere, MayImport, StandsFor, StandForSteps}
 use Rattle.session_log.specs.Imports.{TakesEntry}

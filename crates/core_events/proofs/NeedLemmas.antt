@@ -7,9 +7,11 @@ use Rattle.std.proofs.lemmas.List.{take_all, take_more}
 use Rattle.lists.proofs.Membership.{Contains-head, Contains-tail}
 use Rattle.semantics.specs.Frameworks.{Framework}
 use Rattle.meaning_atoms.specs.declared.axiom.AxiomName.{AxiomName}
-use Rattle.edit_rules.specs.Replay.{after_edit}
+use Rattle.edit_rules.specs.declared.edit.Edit.{Edit}
+use Rattle.edit_rules.specs.Replay.{after_edit, replay}
 use Rattle.edit_history.specs.declared.entry.HistoryEntry.{HistoryEntry}
-use Rattle.edit_history.specs.Entries.{framework_after}
+use Rattle.edit_history.specs.Entries.{edits_of}
+use Rattle.edit_history.proofs.EntryLemmas.{edits_more}
 use Rattle.oracle_face.specs.declared.entry.Entry.{Entry as PoolEntry}
 use Rattle.oracle_face.specs.Needed.{IsNeeded}
 use Rattle.core_logs.proofs.Walked.{IsSome}
@@ -20,54 +22,63 @@ use Rattle.certificate_claims.proofs.SetTests.{passed}
 
 -- ---- frameworks
 
-after_one : (f : Framework) (entries : List HistoryEntry) (entry : HistoryEntry)
-    → framework_after f (entries ++ entry ∷ []) ≡ after_edit (framework_after f entries) entry.edit
-after_one f [] entry = refl
-after_one f (first ∷ more) entry = after_one (after_edit f first.edit) more entry
+after_one : (f : Framework) (edits : List Edit) (edit : Edit)
+    → replay f (edits ++ edit ∷ []) ≡ after_edit (replay f edits) edit
+after_one f [] edit = refl
+after_one f (first ∷ more) edit = after_one (after_edit f first) more edit
 
-pub after_next : (f now next : Framework) (entries : List HistoryEntry) (i : ℕ) (entry : HistoryEntry) → i < length
-    entries
-    → entry ≡ get_or entries i entry → now ≡ framework_after f (take i entries) → next ≡ after_edit now entry.edit
-    → next ≡ framework_after f (take (i + 1) entries)
-after_next f now next entries i entry lt read so_far step =
-    step ∙ (ap (λ g. after_edit g entry.edit) so_far
-    ∙ (sym (after_one f (take i entries) entry)
-    ∙ ap (framework_after f) (ap (λ (e : HistoryEntry). take i entries ++ e ∷ []) read ∙ sym
-    (take_more entries i entry lt))))
+pub after_next : (f now next : Framework) (edits : List Edit) (i : ℕ) (edit : Edit) → i < length
+    edits
+    → edit ≡ get_or edits i edit → now ≡ replay f (take i edits) → next ≡ after_edit now edit
+    → next ≡ replay f (take (i + 1) edits)
+after_next f now next edits i edit lt read so_far step =
+    step ∙ (ap (λ g. after_edit g edit) so_far
+    ∙ (sym (after_one f (take i edits) edit)
+    ∙ ap (replay f) (ap (λ (e : Edit). take i edits ++ e ∷ []) read ∙ sym
+    (take_more edits i edit lt))))
 
-pub after_all : (f now : Framework) (entries : List HistoryEntry) (i : ℕ) → length entries ≤ i
-    → now ≡ framework_after f (take i entries) → now ≡ framework_after f entries
-after_all f now entries i le so_far = so_far ∙ ap (framework_after f) (take_all i entries le)
+pub after_all : (f now : Framework) (edits : List Edit) (i : ℕ) → length edits ≤ i
+    → now ≡ replay f (take i edits) → now ≡ replay f edits
+after_all f now edits i le so_far = so_far ∙ ap (replay f) (take_all i edits le)
+
+-- the edits of entries up to the next one
+pub edits_next : (entries : List HistoryEntry) (i : ℕ) (entry : HistoryEntry) (now next : List Edit) → i < length entries
+    → entry ≡ get_or entries i entry → now ≡ edits_of (take i entries) → next ≡ now ++ entry.edits
+    → next ≡ edits_of (take (i + 1) entries)
+edits_next entries i entry now next lt read so_far step =
+    step ∙ (ap (λ l. l ++ entry.edits) so_far
+    ∙ (sym (edits_more (take i entries) entry)
+    ∙ ap edits_of (ap (λ (e : HistoryEntry). take i entries ++ e ∷ []) read ∙ sym (take_more entries i entry lt))))
 
 -- ---- needed axioms
 
 -- none of one more framework
-pub needed_no_more : (f now : Framework) (entries : List HistoryEntry) (i : ℕ) (name : AxiomName) (b : Bool)
-    → now ≡ framework_after f (take i entries) → IsTrue b ↔ IsNeeded now name → b ≡ false
-    → ((count : ℕ) → count < i → IsNeeded (framework_after f (take count entries)) name → ⊥)
-    → (count : ℕ) → count < i + 1 → IsNeeded (framework_after f (take count entries)) name → ⊥
-needed_no_more f now entries i name b e h no_ none count lt needed =
+pub needed_no_more : (f now : Framework) (edits : List Edit) (i : ℕ) (name : AxiomName) (b : Bool)
+    → now ≡ replay f (take i edits) → IsTrue b ↔ IsNeeded now name → b ≡ false
+    → ((count : ℕ) → count < i → IsNeeded (replay f (take count edits)) name → ⊥)
+    → (count : ℕ) → count < i + 1 → IsNeeded (replay f (take count edits)) name → ⊥
+needed_no_more f now edits i name b e h no_ none count lt needed =
     ⊎_elim (λ early. none count early needed)
     (λ late. let same : count ≡ i = omega (arith, lt, late) in
     false≢true (sym no_ ∙ h.1 (subst (λ (g : Framework). IsNeeded g name) (sym e)
-    (subst (λ n. IsNeeded (framework_after f (take n entries)) name) same needed))))
+    (subst (λ n. IsNeeded (replay f (take n edits)) name) same needed))))
     (cases_lt count i)
 
--- it is needed after some of the entries
-pub needed_here : (f now : Framework) (entries : List HistoryEntry) (i : ℕ) (name : AxiomName) (b : Bool)
-    → now ≡ framework_after f (take i entries) → IsTrue b ↔ IsNeeded now name → b ≡ true → i ≤ length entries
-    → IsTrue true ↔ IsNeededAmong f entries name
-needed_here f now entries i name b e h yes_ le = (
+-- it is needed after some of the edits
+pub needed_here : (f now : Framework) (edits : List Edit) (i : ℕ) (name : AxiomName) (b : Bool)
+    → now ≡ replay f (take i edits) → IsTrue b ↔ IsNeeded now name → b ≡ true → i ≤ length edits
+    → IsTrue true ↔ IsNeededAmong f edits name
+needed_here f now edits i name b e h yes_ le = (
   λ t. record { count = i; within = le; needed = subst (λ (g : Framework). IsNeeded g name) e (h.0 yes_) },
   λ w. refl,
 )
 
 -- after all of them, where it isn't after fewer
-pub needed_last : (f now : Framework) (entries : List HistoryEntry) (i : ℕ) (name : AxiomName) (b : Bool)
-    → i ≡ length entries → now ≡ framework_after f (take i entries)
-    → ((count : ℕ) → count < i → IsNeeded (framework_after f (take count entries)) name → ⊥)
-    → IsTrue b ↔ IsNeeded now name → IsTrue b ↔ IsNeededAmong f entries name
-needed_last f now entries i name b at e none h = (
+pub needed_last : (f now : Framework) (edits : List Edit) (i : ℕ) (name : AxiomName) (b : Bool)
+    → i ≡ length edits → now ≡ replay f (take i edits)
+    → ((count : ℕ) → count < i → IsNeeded (replay f (take count edits)) name → ⊥)
+    → IsTrue b ↔ IsNeeded now name → IsTrue b ↔ IsNeededAmong f edits name
+needed_last f now edits i name b at e none h = (
   λ t. record {
     count = i;
     within = omega (arith, at);
@@ -76,7 +87,7 @@ needed_last f now entries i name b at e none h = (
   λ w. let within = w.within in ⊎_elim (λ early. absurd (none w.count early w.needed))
       (λ late. let same : w.count ≡ i = omega (arith, at, late, within) in
       h.1 (subst (λ (g : Framework). IsNeeded g name) (sym e)
-      (subst (λ n. IsNeeded (framework_after f (take n entries)) name) same w.needed)))
+      (subst (λ n. IsNeeded (replay f (take n edits)) name) same w.needed)))
       (cases_lt w.count i),
 )
 

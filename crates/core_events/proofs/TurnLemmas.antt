@@ -1,18 +1,18 @@
 -- What a turn leaves.
-use Rattle.std.proofs.Common.{◌≡◌, ℕ, ◌+◌, true, false, List, [], ◌++◌, length, get_or, ap, sym, subst, ◌∙◌}
+use Rattle.std.proofs.Common.{◌≡◌, ℕ, ◌+◌, ◌<◌, ◌≤◌, arith, true, false, List, [], ◌++◌, length, get_or, ap, sym, subst, ◌∙◌}
 use Rattle.std.specs.Prelude.{Result, Ok, Err, nat_le}
 use Rattle.std.specs.Result.{IsErr, IsErrAnd}
 use Rattle.std.specs.Global.{Vec}
 use Rattle.std.specs.Vec.{with_item}
-use Rattle.std.proofs.lemmas.Bool.{false≢true}
+use Rattle.std.proofs.lemmas.Bool.{false≢true, le-leb, lt-leb}
 use Rattle.std.proofs.lemmas.List.{append-nil}
 use Rattle.semantics.specs.Frameworks.{Framework}
 use Rattle.edit_rules.specs.declared.edit.Edit.{Edit}
 use Rattle.edit_rules.specs.declared.effect.Effect.{Effect}
 use Rattle.edit_rules.specs.declared.effect.EditFault.{EditFault}
-use Rattle.edit_rules.specs.Edits.{edit_outcome}
+use Rattle.edit_rules.specs.Groups.{group_told}
 use Rattle.edit_history.specs.declared.entry.HistoryEntry.{HistoryEntry}
-use Rattle.edit_history.specs.Entries.{framework_after}
+use Rattle.edit_history.specs.Entries.{IsGroup, edit_count, framework_after}
 use Rattle.core_machine.specs.Core.{Core, CoreSession, put_at}
 use Rattle.core_machine.specs.Steps.{IsStep, after_turn, commit, committed, entry_taken, refresh}
 use Rattle.core_events.specs.declared.machine.Machine.{Machine}
@@ -98,12 +98,12 @@ turn_stopped core now s entries (Err stop) h same =
 
 -- ---- commits
 
-pub commit_comes : (core now : Core) (s : ℕ) (edit : Edit) (entries : List HistoryEntry)
-    (r : Result (Unit {0}) StepStop)
-    → committed core s edit ≡ entries → Turns core s entries now r → Comes (IsStep core (commit s edit)) core now r
-commit_comes core now s edit entries (Ok done) e h = h ∙ ap (after_turn core s) (sym e)
-commit_comes core now s edit entries (Err NotAStep) e h = absurd h
-commit_comes core now s edit entries (Err Memory) e h = h
+pub commit_comes : (core now : Core) (s : ℕ) (edits : List Edit) (entries : List HistoryEntry)
+    (r : Result (Unit {0}) StepStop) → IsGroup edits
+    → committed core s edits ≡ entries → Turns core s entries now r → Comes (IsStep core (commit s edits)) core now r
+commit_comes core now s edits entries (Ok done) group e h = (group, h ∙ ap (after_turn core s) (sym e))
+commit_comes core now s edits entries (Err NotAStep) group e h = absurd h
+commit_comes core now s edits entries (Err Memory) group e h = h
 
 pub refresh_comes : (core now : Core) (s : ℕ) (r : Result (Unit {0}) StepStop) → Turns core s [] now r
     → Comes (IsStep core (refresh s)) core now r
@@ -111,16 +111,21 @@ refresh_comes core now s (Ok done) h = h
 refresh_comes core now s (Err NotAStep) h = absurd h
 refresh_comes core now s (Err Memory) h = h
 
-pub committed_full : (core : Core) (s : ℕ) (edit : Edit) → nat_le core.limit (length core.history) ≡ true
-    → committed core s edit ≡ []
-committed_full core s edit full =
-    chosen (nat_le core.limit (length core.history)) [] (entry_taken s edit
-    (edit_outcome (framework_after core.opening core.history) edit)) full
+pub committed_full : (core : Core) (s : ℕ) (edits : List Edit) (count : ℕ) → count ≡ edit_count core.history
+    → core.limit < count + length edits → committed core s edits ≡ []
+committed_full core s edits count counted full =
+    let high : nat_le (edit_count core.history + length edits) core.limit ≡ false =
+    lt-leb (edit_count core.history + length edits) core.limit (omega (arith, counted, full)) in
+    passed (nat_le (edit_count core.history + length edits) core.limit) (entry_taken s edits
+    (group_told (framework_after core.opening core.history) edits)) [] high
 
-pub committed_by : (core : Core) (s : ℕ) (edit : Edit) (f : Framework) (outcome : Result (Framework × Effect) EditFault)
-    → nat_le core.limit (length core.history) ≡ false → f ≡ framework_after core.opening core.history
-    → edit_outcome f edit ≡ outcome → committed core s edit ≡ entry_taken s edit outcome
-committed_by core s edit f outcome room e h =
-    passed (nat_le core.limit (length core.history)) [] (entry_taken s edit
-    (edit_outcome (framework_after core.opening core.history) edit)) room
-    ∙ ap (entry_taken s edit) (ap (λ (g : Framework). edit_outcome g edit) (sym e) ∙ h)
+pub committed_by : (core : Core) (s : ℕ) (edits : List Edit) (count : ℕ) (f : Framework)
+    (told : Result (List Effect) (ℕ × EditFault)) → count ≡ edit_count core.history
+    → count + length edits ≤ core.limit → f ≡ framework_after core.opening core.history
+    → group_told f edits ≡ told → committed core s edits ≡ entry_taken s edits told
+committed_by core s edits count f told counted room e h =
+    let low : nat_le (edit_count core.history + length edits) core.limit ≡ true =
+    le-leb (edit_count core.history + length edits) core.limit (omega (arith, counted, room)) in
+    chosen (nat_le (edit_count core.history + length edits) core.limit) (entry_taken s edits
+    (group_told (framework_after core.opening core.history) edits)) [] low
+    ∙ ap (entry_taken s edits) (ap (λ (g : Framework). group_told g edits) (sym e) ∙ h)

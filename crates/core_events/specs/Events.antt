@@ -14,7 +14,7 @@ source_by (Hints hints) = by_hints hints
 
 -- the core's event that an event is: an answer lists `MAX_EXTENSIONS` at most
 abbrev pub event_of : Event → CoreEvent
-event_of (Commit s edit) = commit s edit
+event_of (Commit s edits) = commit s edits
 event_of (Refresh s) = refresh s
 event_of (Learn s clause origin closing) = learn s clause (source_by origin) closing
 event_of (Side s set literals) = side s set literals

@@ -2,19 +2,19 @@
 use Rattle.std.specs.Prelude.{◌≡◌, ◌≤◌, ℕ, List, length, take, Some}
 use Rattle.semantics.specs.Frameworks.{Framework}
 use Rattle.meaning_atoms.specs.declared.axiom.AxiomName.{AxiomName}
-use Rattle.edit_history.specs.declared.entry.HistoryEntry.{HistoryEntry}
-use Rattle.edit_history.specs.Entries.{framework_after}
+use Rattle.edit_rules.specs.declared.edit.Edit.{Edit}
+use Rattle.edit_rules.specs.Replay.{replay}
 use Rattle.oracle_face.specs.declared.entry.Entry.{Entry as PoolEntry}
 use Rattle.oracle_face.specs.Needed.{IsNeeded}
 use Rattle.session_log.specs.OwnSteps.{NamesAxiom}
 use Rattle.core_events.specs.declared.places.IndexedEntry.{IndexedEntry}
 use Rattle.core_events.specs.Places.{pool_of}
 
--- the axiom is needed on the framework after some of the entries
-pub record IsNeededAmong (opening : Framework) (entries : List HistoryEntry) (name : AxiomName) : Type 0 where
+-- the axiom is needed on the framework after some of the edits
+pub record IsNeededAmong (opening : Framework) (edits : List Edit) (name : AxiomName) : Type 0 where
   pub count : ℕ
-  pub within : count ≤ length entries
-  pub needed : IsNeeded (framework_after opening (take count entries)) name
+  pub within : count ≤ length edits
+  pub needed : IsNeeded (replay opening (take count edits)) name
 
 -- some entry of the pool names it
 pub record IsNamedAmong (places : List IndexedEntry) (name : AxiomName) : Type 0 where

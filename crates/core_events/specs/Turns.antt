@@ -7,10 +7,10 @@ use Rattle.core_machine.specs.Steps.{after_turn, committed}
 use Rattle.core_events.specs.declared.stop.StepStop.{StepStop}
 use Rattle.core_events.specs.declared.stop.StepStop.TheVariants.{Memory, NotAStep}
 
--- whether a commit adds the edit
-abbrev pub IsCommitted : Core → ℕ → Edit → Bool → Type 0
-IsCommitted core s edit takes =
-    committed core s edit ≡ (if takes then record { session = s; edit = edit } ∷ [] else [])
+-- whether a commit adds the group
+abbrev pub IsCommitted : Core → ℕ → List Edit → Bool → Type 0
+IsCommitted core s edits takes =
+    committed core s edits ≡ (if takes then record { session = s; edits = edits } ∷ [] else [])
 
 -- one turn adds these entries, unless memory was refused: then all stays
 abbrev pub Turns : Core → ℕ → List HistoryEntry → Core → Result (Unit {0}) StepStop → Type 0

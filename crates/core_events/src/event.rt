@@ -27,8 +27,8 @@ pub enum Origin {
 
 /// What a session does. Sessions are numbered from 1.
 pub enum Event {
-    /// A session commits an edit.
-    Commit(u32, Edit),
+    /// A session commits a group of edits.
+    Commit(u32, Items<Edit>),
     /// A session looks at all edits.
     Refresh(u32),
     /// A session learns a clause; `closing` marks one that only ends a search.
@@ -108,7 +108,7 @@ impl Machine {
         ensures { Comes (IsStep (core_of self.old) (event_of event.now)) (core_of self.old) (core_of self.new) result }
     {
         match event {
-            Event::Commit(session, edit) => self.commit(alloc, *session, edit),
+            Event::Commit(session, edits) => self.commit(alloc, *session, edits.as_slice()),
             Event::Refresh(session) => self.look(alloc, *session),
             Event::Learn {
                 session,

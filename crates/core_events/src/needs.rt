@@ -1,13 +1,13 @@
 //! What calls for an axiom: a framework that a session has seen, or the pool.
 
-ghost use Rattle.std.specs.Prelude.{◌≡◌, ◌↔◌, Contains, IfOk, IsTrue, OnOk, take};
+ghost use Rattle.std.specs.Prelude.{◌≡◌, ◌↔◌, ◌++◌, Contains, IfOk, IsTrue, OnOk, take};
 ghost use Rattle.meaning_atoms.specs.declared.axiom.AxiomName.{AxiomName as AName};
 ghost use Rattle.oracle_face.specs.declared.entry.HintName.TheVariants.{Axiom};
 ghost use Rattle.oracle_face.specs.Needed.{IsNeeded};
 ghost use Rattle.certificate_claims.specs.Refutations.{IsAxiomOf};
 ghost use Rattle.edit_rules.specs.Kinds.{framework_of};
-ghost use Rattle.edit_rules.specs.Replay.{after_edit};
-ghost use Rattle.edit_history.specs.Entries.{framework_after};
+ghost use Rattle.edit_rules.specs.Replay.{after_edit, replay as replay_all};
+ghost use Rattle.edit_history.specs.Entries.{edits_of, framework_after};
 ghost use Rattle.session_log.specs.OwnSteps.{NamesAxiom};
 ghost use Rattle.core_events.specs.Needs.{IsNamedAmong, IsNamedUnder, IsNeededAmong};
 
@@ -42,6 +42,36 @@ fn follow(alloc: Global, framework: &mut Framework, edit: &Edit) -> Result<(), M
     }
 }
 
+/// Adds the same edits again behind others.
+fn push_edits(alloc: Global, all: &mut Items<Edit>, edits: &[Edit]) -> Result<(), Memory>
+    ensures { OnOk result (all.new ≡ all.old ++ edits.now) }
+{
+    for edit in edits {
+        all.push(edit.copy(alloc)?)?;
+    }
+    Ok(())
+}
+
+/// The same edits again.
+pub(crate) fn copy_edits(alloc: Global, edits: &[Edit]) -> Result<Items<Edit>, Memory>
+    ensures { IfOk result (λ copy. copy ≡ edits.now) }
+{
+    let mut copy = Items::new(alloc);
+    push_edits(alloc, &mut copy, edits)?;
+    Ok(copy)
+}
+
+/// The edits of entries, one after another.
+pub(crate) fn edits_in(alloc: Global, entries: &[HistoryEntry]) -> Result<Items<Edit>, Memory>
+    ensures { IfOk result (λ edits. edits ≡ edits_of entries.now) }
+{
+    let mut edits = Items::new(alloc);
+    for entry in entries {
+        push_edits(alloc, &mut edits, entry.edits.as_slice())?;
+    }
+    Ok(edits)
+}
+
 /// The framework after entries.
 pub(crate) fn replay(
     alloc: Global,
@@ -51,11 +81,20 @@ pub(crate) fn replay(
     ensures { IfOk result (λ framework. framework_of framework
         ≡ framework_after (framework_of opening.now) entries.now) }
 {
+    let edits = edits_in(alloc, entries)?;
     let mut framework = opening.copy(alloc)?;
-    for entry in entries {
-        follow(alloc, &mut framework, &entry.edit)?;
-    }
+    follow_all(alloc, &mut framework, edits.as_slice())?;
     Ok(framework)
+}
+
+/// Changes a framework by edits, one after another.
+fn follow_all(alloc: Global, framework: &mut Framework, edits: &[Edit]) -> Result<(), Memory>
+    ensures { OnOk result (framework_of framework.new ≡ replay_all (framework_of framework.old) edits.now) }
+{
+    for edit in edits {
+        follow(alloc, framework, edit)?;
+    }
+    Ok(())
 }
 
 /// The axioms that searches need for a framework.
@@ -84,35 +123,36 @@ fn is_needed(alloc: Global, framework: &Framework, name: &AxiomName) -> Result<b
     Ok(is_listed(names.as_slice(), name))
 }
 
-/// Whether the framework after some of the entries needs an axiom. The framework is changed on the way.
+/// Whether the framework after some of the edits needs an axiom. The framework is changed on the way.
 fn is_needed_along(
     alloc: Global,
     framework: &mut Framework,
-    entries: &[HistoryEntry],
+    edits: &[Edit],
     name: &AxiomName,
 ) -> Result<bool, Memory>
-    ensures { IfOk result (λ is. IsTrue is ↔ IsNeededAmong (framework_of framework.old) entries.now name.now) }
+    ensures { IfOk result (λ is. IsTrue is ↔ IsNeededAmong (framework_of framework.old) edits.now name.now) }
 {
-    for entry in entries {
+    for edit in edits {
         if is_needed(alloc, framework, name)? {
             return Ok(true);
         }
-        follow(alloc, framework, &entry.edit)?;
+        follow(alloc, framework, edit)?;
     }
     is_needed(alloc, framework, name)
 }
 
-/// Whether the framework after some of the entries needs an axiom.
+/// Whether the framework after some of the edits of entries needs an axiom.
 pub(crate) fn is_needed_among(
     alloc: Global,
     opening: &Framework,
     entries: &[HistoryEntry],
     name: &AxiomName,
 ) -> Result<bool, Memory>
-    ensures { IfOk result (λ is. IsTrue is ↔ IsNeededAmong (framework_of opening.now) entries.now name.now) }
+    ensures { IfOk result (λ is. IsTrue is ↔ IsNeededAmong (framework_of opening.now) (edits_of entries.now) name.now) }
 {
+    let edits = edits_in(alloc, entries)?;
     let mut framework = opening.copy(alloc)?;
-    is_needed_along(alloc, &mut framework, entries, name)
+    is_needed_along(alloc, &mut framework, edits.as_slice(), name)
 }
 
 /// Whether a hint is an axiom.

@@ -1,9 +1,9 @@
 -- What each step of the core keeps, and so every run.
-use Rattle.std.proofs.Common.{◌≡◌, ◌∙◌, ℕ, ◌==◌, ◌≤◌, Bool, List, [], ◌∷◌, ◌++◌, length, map, take, refl, sym, ap}
+use Rattle.std.proofs.Common.{◌≡◌, ◌∙◌, ℕ, ◌==◌, ◌≤◌, Bool, List, [], ◌∷◌, ◌++◌, length, take, refl, sym, ap}
 use Rattle.std.proofs.Common.{subst, arith, Option, Some, None, Result, Ok, Err}
 use Rattle.std.specs.Prelude.{nat_le, All}
 use Rattle.std.proofs.lemmas.Bool.{cond_both, eq-eqb, eqb-true, false≢true}
-use Rattle.std.proofs.lemmas.List.{append_assoc, append-nil, length-append, map-append}
+use Rattle.std.proofs.lemmas.List.{append_assoc, append-nil, length-append}
 use Rattle.semantics.specs.Frameworks.{Framework, af, aba, IsNumbered}
 use Rattle.meaning_atoms.specs.declared.axiom.AxiomName.{AxiomName}
 use Rattle.meaning_atoms.specs.declared.axiom.AxiomName.TheVariants.{Af as OfAf, Aba as OfAba}
@@ -18,12 +18,14 @@ use Rattle.certificate_claims.specs.Rights.{IsRight}
 use Rattle.edit_rules.specs.declared.edit.Edit.{Edit}
 use Rattle.edit_rules.specs.declared.effect.Effect.{Effect}
 use Rattle.edit_rules.specs.declared.effect.EditFault.{EditFault}
-use Rattle.edit_rules.specs.Edits.{edit_outcome}
+use Rattle.edit_rules.specs.Groups.{group_told}
 use Rattle.edit_rules.specs.Kinds.{kind_of}
-use Rattle.edit_rules.specs.Replay.{AreTaken, after_edit, left_by, replay}
+use Rattle.edit_rules.specs.Replay.{AreTaken, after_edit, replay}
+use Rattle.edit_rules.proofs.GroupLemmas.{group_taken}
 use Rattle.edit_rules.proofs.ReplayLemmas.{edits_keep, kind_stays}
 use Rattle.edit_history.specs.declared.entry.HistoryEntry.{HistoryEntry}
-use Rattle.edit_history.specs.Entries.{framework_after}
+use Rattle.edit_history.specs.Entries.{edit_count, edits_of, framework_after}
+use Rattle.edit_history.proofs.EntryLemmas.{edits_more}
 use Rattle.oracle_face.specs.declared.entry.Entry.{Entry as PoolEntry}
 use Rattle.oracle_face.specs.declared.entry.EntryOrigin.{EntryOrigin}
 use Rattle.oracle_face.specs.declared.entry.EntryOrigin.TheVariants.{Axiom as OfAxiom, Hints}
@@ -88,23 +90,18 @@ same_log f g log kinds form = record {
 
 -- ---- edits that are taken
 
-abbrev edits_in : List HistoryEntry → List Edit
-edits_in entries = map (λ (e : HistoryEntry). e.edit) entries
-
-taken_more : (f : Framework) (edits : List Edit) (edit : Edit) (effect : Effect) → AreTaken f edits
-    → edit_outcome (replay f edits) edit ≡ Ok (after_edit (replay f edits) edit, effect)
-    → AreTaken f (edits ++ edit ∷ [])
-taken_more f [] edit effect taken is = ((effect, is), tt)
-taken_more f (x ∷ edits) edit effect taken is = (taken.0, taken_more (after_edit f x) edits edit effect taken.1 is)
+taken_more : (f : Framework) (edits more : List Edit) → AreTaken f edits → AreTaken (replay f edits) more
+    → AreTaken f (edits ++ more)
+taken_more f [] more taken is = is
+taken_more f (x ∷ edits) more taken is = (taken.0, taken_more (after_edit f x) edits more taken.1 is)
 
 -- ---- what holds at each moment
 
 -- the edits of the history are taken, none of them refused; no session has seen more than there is, and each has a
--- guarded
--- log; and each entry of the pool may be shared
+-- guarded log; and each entry of the pool may be shared
 pub record IsGood (core : Core) : Type 0 where
   pub numbered : IsNumbered core.opening
-  pub taken : AreTaken core.opening (edits_in core.history)
+  pub taken : AreTaken core.opening (edits_of core.history)
   pub seen : (s : ℕ) → (core.sessions s).seen ≤ length core.history
   pub form : (s : ℕ) → IsLog core.opening (core.sessions s).log
   pub guards : (s : ℕ) → IsGuarded (core.sessions s).log
@@ -113,7 +110,7 @@ pub record IsGood (core : Core) : Type 0 where
 opened_good : (core : Core) → IsOpened core → IsNumbered core.opening → IsGood core
 opened_good core opened numbered = record {
   numbered = numbered;
-  taken = subst (λ history. AreTaken core.opening (edits_in history)) (sym opened.no_history) tt;
+  taken = subst (λ history. AreTaken core.opening (edits_of history)) (sym opened.no_history) tt;
   seen = λ s. omega (arith, opened.none_seen s);
   form = λ s. (opened_guarded core.opening (core.sessions s).log (opened.no_steps s) (opened.no_sides s)).0;
   guards = λ s. (opened_guarded core.opening (core.sessions s).log (opened.no_steps s) (opened.no_sides s)).1;
@@ -123,7 +120,7 @@ opened_good core opened numbered = record {
 -- ---- edits
 
 turned_good : (core : Core) (s : ℕ) (entries : List HistoryEntry) → IsGood core
-    → AreTaken core.opening (edits_in (core.history ++ entries)) → IsGood (after_turn core s entries)
+    → AreTaken core.opening (edits_of (core.history ++ entries)) → IsGood (after_turn core s entries)
 turned_good core s entries good taken =
     let all = core.history ++ entries in
     let session : CoreSession = record (core.sessions s) { seen = length all } in
@@ -139,27 +136,25 @@ turned_good core s entries good taken =
       pool = good.pool;
     }
 
-entry_added : (core : Core) (s : ℕ) (edit : Edit) (outcome : Result (Framework × Effect) EditFault) → IsGood core
-    → edit_outcome (framework_after core.opening core.history) edit ≡ outcome
-    → AreTaken core.opening (edits_in (core.history ++ entry_taken s edit outcome))
-entry_added core s edit (Ok done) good is =
-    let f = framework_after core.opening core.history in
-    let behind : after_edit f edit ≡ done.0 = ap (left_by f) is in
-    let entry : HistoryEntry = record { session = s; edit = edit } in
-    subst (AreTaken core.opening) (sym (map-append (λ (e : HistoryEntry). e.edit) core.history (entry ∷ [])))
-    (taken_more core.opening (edits_in core.history) edit done.1 good.taken
-    (is ∙ ap (λ g. Ok (g, done.1)) (sym behind)))
-entry_added core s edit (Err fault) good is =
-    subst (λ entries. AreTaken core.opening (edits_in entries)) (sym (append-nil core.history)) good.taken
+entry_added : (core : Core) (s : ℕ) (edits : List Edit) (told : Result (List Effect) (ℕ × EditFault)) → IsGood core
+    → group_told (framework_after core.opening core.history) edits ≡ told
+    → AreTaken core.opening (edits_of (core.history ++ entry_taken s edits told))
+entry_added core s edits (Ok effects) good is =
+    let entry : HistoryEntry = record { session = s; edits = edits } in
+    subst (AreTaken core.opening) (sym (edits_more core.history entry))
+    (taken_more core.opening (edits_of core.history) edits good.taken
+    (group_taken (framework_after core.opening core.history) edits effects is))
+entry_added core s edits (Err refused) good is =
+    subst (λ entries. AreTaken core.opening (edits_of entries)) (sym (append-nil core.history)) good.taken
 
-commit_taken : (core : Core) (s : ℕ) (edit : Edit) → IsGood core
-    → AreTaken core.opening (edits_in (core.history ++ committed core s edit))
-commit_taken core s edit good =
-    let outcome = edit_outcome (framework_after core.opening core.history) edit in
-    cond_both (nat_le core.limit (length core.history)) [] (entry_taken s edit outcome)
-    (λ entries. AreTaken core.opening (edits_in (core.history ++ entries)))
-    (λ full. subst (λ entries. AreTaken core.opening (edits_in entries)) (sym (append-nil core.history)) good.taken)
-    (λ room. entry_added core s edit outcome good refl)
+commit_taken : (core : Core) (s : ℕ) (edits : List Edit) → IsGood core
+    → AreTaken core.opening (edits_of (core.history ++ committed core s edits))
+commit_taken core s edits good =
+    let told = group_told (framework_after core.opening core.history) edits in
+    cond_both (nat_le (edit_count core.history + length edits) core.limit) (entry_taken s edits told) []
+    (λ entries. AreTaken core.opening (edits_of (core.history ++ entries)))
+    (λ room. entry_added core s edits told good refl)
+    (λ full. subst (λ entries. AreTaken core.opening (edits_of entries)) (sym (append-nil core.history)) good.taken)
 
 -- ---- logs
 
@@ -274,11 +269,11 @@ answered_good core s n good =
 -- ---- steps
 
 step_good : (core new : Core) (event : Event) → IsGood core → IsStep core event new → IsGood new
-step_good core new (commit s edit) good is =
-    subst IsGood (sym is) (turned_good core s (committed core s edit) good (commit_taken core s edit good))
+step_good core new (commit s edits) good is =
+    subst IsGood (sym is.1) (turned_good core s (committed core s edits) good (commit_taken core s edits good))
 step_good core new (refresh s) good is =
     subst IsGood (sym is) (turned_good core s [] good
-    (subst (λ entries. AreTaken core.opening (edits_in entries)) (sym (append-nil core.history)) good.taken))
+    (subst (λ entries. AreTaken core.opening (edits_of entries)) (sym (append-nil core.history)) good.taken))
 step_good core new (learn s clause source closing) good is =
     subst IsGood (sym is.2) (learned_good core s clause source closing is.0 good is.1)
 step_good core new (side s set literals) good is =
@@ -292,7 +287,7 @@ step_good core new (answer s asked most budget pending ending) good is =
 
 step_history : (core new : Core) (event : Event) → IsStep core event new
     → (new.opening ≡ core.opening) × (new.history ≡ core.history ++ taken_by core event)
-step_history core new (commit s edit) is = (ap (λ (c : Core). c.opening) is, ap (λ (c : Core). c.history) is)
+step_history core new (commit s edits) is = (ap (λ (c : Core). c.opening) is.1, ap (λ (c : Core). c.history) is.1)
 step_history core new (refresh s) is = (ap (λ (c : Core). c.opening) is, ap (λ (c : Core). c.history) is)
 step_history core new (learn s clause source closing) is =
     (ap (λ (c : Core). c.opening) is.2, ap (λ (c : Core). c.history) is.2 ∙ sym (append-nil core.history))
@@ -324,8 +319,8 @@ turned_seen core n entries good =
 
 step_seen : (core new : Core) (event : Event) → IsGood core → IsStep core event new → (s : ℕ)
     → (core.sessions s).seen ≤ (new.sessions s).seen
-step_seen core new (commit n edit) good is s =
-    seen_in core _ new s is (turned_seen core n (committed core n edit) good s)
+step_seen core new (commit n edits) good is s =
+    seen_in core _ new s is.1 (turned_seen core n (committed core n edits) good s)
 step_seen core new (refresh n) good is s = seen_in core _ new s is (turned_seen core n [] good s)
 step_seen core new (learn n clause source closing) good is s =
     seen_in core _ new s is.2 (seen_put core n (record (core.sessions n) { log = is.0 }) (omega arith) s)
@@ -376,12 +371,12 @@ run_good start core events taken run =
 pub history_taken : (start core : Core) (events : List Event) (taken : List HistoryEntry) → IsRun start events taken
     core
     → (core.opening ≡ start.opening) × (core.history ≡ taken)
-    × AreTaken start.opening (map (λ (e : HistoryEntry). e.edit) core.history)
+    × AreTaken start.opening (edits_of core.history)
 history_taken start core events taken run =
     let all = runs_history start core events taken run.runs in (
       all.0,
       all.1 ∙ ap (λ history. history ++ taken) run.opened.no_history,
-      subst (λ f. AreTaken f (edits_in core.history)) all.0 (run_good start core events taken run).taken,
+      subst (λ f. AreTaken f (edits_of core.history)) all.0 (run_good start core events taken run).taken,
     )
 
 pub sees_more : (start core new : Core) (before events : List Event) (earlier taken : List HistoryEntry)
@@ -409,7 +404,7 @@ answers_right start core new events taken run s asked most budget pending given 
     let good = run_good start core events taken run in
     let f = seen_framework core s in
     let log = (core.sessions s).log in
-    let edits = edits_in (take (core.sessions s).seen core.history) in
+    let edits = edits_of (take (core.sessions s).seen core.history) in
     let numbered : IsNumbered f = edits_keep core.opening edits good.numbered in
     let form : IsLog f log = same_log core.opening f log (sym (kind_stays core.opening edits)) (good.form s) in
     let shown = step.ends.2 in (

@@ -14,7 +14,7 @@ pub record CoreSession : Type 0 where
   pub shared : List ℕ
   pub answered : ℕ
 
--- the framework at the beginning, how many entries the history may have, the history and the number of turns, what stands
+-- the framework at the beginning, how many edits the history may have, the history and the number of turns, what stands
 -- at each index of the pool, and the session of each number
 pub record Core : Type 0 where
   pub opening : Framework

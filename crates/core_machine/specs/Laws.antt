@@ -1,11 +1,12 @@
 -- What holds of every run of the core from its beginning.
-use Rattle.std.specs.Prelude.{◌≡◌, ℕ, ◌≤◌, List, length, map, Option, Some}
+use Rattle.std.specs.Prelude.{◌≡◌, ℕ, ◌≤◌, List, length, Option, Some}
 use Rattle.semantics.specs.Frameworks.{Framework, IsNumbered}
 use Rattle.iccma_tasks.specs.Tasks.{Asked}
 use Rattle.iccma_tasks.specs.declared.answer.Answer.{Answer}
 use Rattle.certificate_claims.specs.Rights.{IsRight}
 use Rattle.edit_rules.specs.Replay.{AreTaken}
 use Rattle.edit_history.specs.declared.entry.HistoryEntry.{HistoryEntry}
+use Rattle.edit_history.specs.Entries.{edits_of}
 use Rattle.oracle_face.specs.declared.entry.Entry.{Entry as PoolEntry}
 use Rattle.oracle_face.specs.declared.face.Pending.{Pending}
 use Rattle.oracle_face.specs.Entries.{IsShareable}
@@ -23,11 +24,11 @@ pub record IsRun (start : Core) (events : List Event) (taken : List HistoryEntry
   pub numbered : IsNumbered start.opening
   pub runs : Runs start events taken core
 
--- the history is the list of the edits that were taken, in order, and none of them is refused there
+-- the history is the list of the groups of edits that were taken, in order, and none of their edits is refused there
 abbrev pub HistoryIsTaken : Type 0
 HistoryIsTaken = (start core : Core) (events : List Event) (taken : List HistoryEntry) → IsRun start events taken core
     → (core.opening ≡ start.opening) × (core.history ≡ taken)
-    × AreTaken start.opening (map (λ (e : HistoryEntry). e.edit) core.history)
+    × AreTaken start.opening (edits_of core.history)
 
 -- what a session has seen never shrinks, and is never more than there is
 abbrev pub EachSeesMore : Type 0

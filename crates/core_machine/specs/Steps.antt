@@ -1,10 +1,9 @@
--- The steps of the core: an edit is committed, a session sees all edits, learns a clause, keeps a side clause, hands a
--- clause to the pool or takes one from it, and answers a query.
-use Rattle.std.specs.Prelude.{◌≡◌, ◌⊎◌, ℕ, ◌+◌, ◌≤◌, ◌<◌, Bool, true, false, List, [], ◌∷◌, ◌++◌, length, take}
-use Rattle.std.specs.Prelude.{Contains, slice_index_or, count_by, Option, Some, None, Result, Ok, Err}
+-- The steps of the core: a group of edits is committed, a session sees all edits, learns a clause, keeps a side clause,
+-- hands a clause to the pool or takes one from it, and answers a query.
+use Rattle.std.specs.Prelude.{◌≡◌, ◌⊎◌, ℕ, ◌+◌, ◌<◌, Bool, true, false, List, [], ◌∷◌, ◌++◌, length, take}
+use Rattle.std.specs.Prelude.{slice_index_or, count_by, Option, Some, None, Result, Ok, Err}
 use Rattle.std.specs.Prelude.{if◌then◌else◌, nat_le}
 use Rattle.plain_lits.specs.Units.{Units}
-use Rattle.semantics.specs.Frameworks.{Framework}
 use Rattle.meaning_atoms.specs.declared.atom.AtomLit.{AtomLit}
 use Rattle.meaning_atoms.specs.declared.axiom.AxiomName.{AxiomName}
 use Rattle.meaning_atoms.specs.Literals.{AsksNothing}
@@ -12,9 +11,10 @@ use Rattle.iccma_tasks.specs.Tasks.{Asked}
 use Rattle.edit_rules.specs.declared.edit.Edit.{Edit}
 use Rattle.edit_rules.specs.declared.effect.Effect.{Effect}
 use Rattle.edit_rules.specs.declared.effect.EditFault.{EditFault}
-use Rattle.edit_rules.specs.Edits.{edit_outcome}
+use Rattle.edit_rules.specs.Groups.{group_told}
+use Rattle.edit_rules.specs.Replay.{replay}
 use Rattle.edit_history.specs.declared.entry.HistoryEntry.{HistoryEntry}
-use Rattle.edit_history.specs.Entries.{framework_after}
+use Rattle.edit_history.specs.Entries.{IsGroup, edit_count, edits_of, framework_after}
 use Rattle.oracle_face.specs.declared.entry.Entry.{Entry as PoolEntry}
 use Rattle.oracle_face.specs.declared.entry.EntryOrigin.{EntryOrigin}
 use Rattle.oracle_face.specs.declared.entry.EntryOrigin.TheVariants.{Axiom as OfAxiom, Hints}
@@ -31,7 +31,7 @@ use Rattle.core_machine.specs.Core.{Core, put_at, seen_framework, with_log, with
 
 -- what a session does
 pub data Event : Type 0 where
-  commit : (s : ℕ) (edit : Edit) → Event
+  commit : (s : ℕ) (edits : List Edit) → Event
   refresh : (s : ℕ) → Event
   learn : (s : ℕ) (clause : List AtomLit) (source : Source) (closing : Bool) → Event
   side : (s : ℕ) (set : List ℕ) (literals : List AtomLit) → Event
@@ -41,15 +41,16 @@ pub data Event : Type 0 where
 
 -- ---- edits
 
-abbrev pub entry_taken : ℕ → Edit → Result (Framework × Effect) EditFault → List HistoryEntry
-entry_taken s edit (Ok done) = record { session = s; edit = edit } ∷ []
-entry_taken s edit (Err fault) = []
+abbrev pub entry_taken : ℕ → List Edit → Result (List Effect) (ℕ × EditFault) → List HistoryEntry
+entry_taken s edits (Ok effects) = record { session = s; edits = edits } ∷ []
+entry_taken s edits (Err refused) = []
 
--- what a commit adds: its entry, where the history has room and the framework after it takes the edit
-abbrev pub committed : Core → ℕ → Edit → List HistoryEntry
-committed core s edit =
-    if nat_le core.limit (length core.history) then []
-    else entry_taken s edit (edit_outcome (framework_after core.opening core.history) edit)
+-- what a commit adds: its entry, where the history has room for the edits and the framework after it takes the group
+abbrev pub committed : Core → ℕ → List Edit → List HistoryEntry
+committed core s edits =
+    if nat_le (edit_count core.history + length edits) core.limit
+    then entry_taken s edits (group_told (framework_after core.opening core.history) edits)
+    else []
 
 -- one turn: the history gains these entries, and the session has seen all of it
 abbrev pub after_turn : Core → ℕ → List HistoryEntry → Core
@@ -66,11 +67,10 @@ pub record IsNamedInPool (core : Core) (name : AxiomName) : Type 0 where
   pub there : core.pool index ≡ Some entry
   pub named : NamesAxiom name entry.origin
 
--- the axiom is needed on the framework after some entries that the session has seen
+-- the axiom is needed on the framework after some of the edits that the session has seen, which may end inside a group
 pub record IsNeededFor (core : Core) (s : ℕ) (name : AxiomName) : Type 0 where
   pub count : ℕ
-  pub seen : count ≤ (core.sessions s).seen
-  pub needed : IsNeeded (framework_after core.opening (take count core.history)) name
+  pub needed : IsNeeded (replay core.opening (take count (edits_of (take (core.sessions s).seen core.history)))) name
 
 -- an axiom is called for by a framework that the session has seen, or by the pool
 abbrev pub IsCalledFor : Core → ℕ → AxiomName → Type 0
@@ -166,7 +166,7 @@ pub record Answers (core : Core) (s : ℕ) (asked : Asked) (most budget : ℕ) (
 -- ---- steps and runs
 
 abbrev pub IsStep : Core → Event → Core → Type 0
-IsStep core (commit s edit) new = new ≡ after_turn core s (committed core s edit)
+IsStep core (commit s edits) new = IsGroup edits × (new ≡ after_turn core s (committed core s edits))
 IsStep core (refresh s) new = new ≡ after_turn core s []
 IsStep core (learn s clause source closing) new =
     (log : OracleLog) × LearnsTo core s clause source closing log × (new ≡ with_log core s log)
@@ -179,7 +179,7 @@ IsStep core (answer s asked most budget pending ending) new = Answers core s ask
 
 -- the entries that an event adds to the history
 abbrev pub taken_by : Core → Event → List HistoryEntry
-taken_by core (commit s edit) = committed core s edit
+taken_by core (commit s edits) = committed core s edits
 taken_by core event = []
 
 -- the events lead from the one state to the other, and these entries are added

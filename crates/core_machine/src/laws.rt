@@ -4,8 +4,8 @@
 ghost use Rattle.core_machine.specs.Laws.{AnswersAreRight, EachSeesMore, HistoryIsTaken, ImportsSpendNothing};
 ghost use Rattle.core_machine.specs.Laws.{LogsAreTrue, PoolIsValid};
 
-/// The history has what it had, and then the edits that the run took, in order and each once; and none of them is
-/// refused where they are made one after the other on the framework at the beginning.
+/// The history has what it had, and then the groups of edits that the run took, in order and each once; and none of
+/// their edits is refused where they are made one after the other on the framework at the beginning.
 pub fn history_is_what_was_taken()
     ensures { HistoryIsTaken }
 {}

@@ -16,14 +16,14 @@ use Rattle.edit_history.specs.declared.hub.Fresh.{Fresh}
 use Rattle.edit_history.specs.declared.hub.History.{History}
 use Rattle.edit_history.specs.declared.hub.Hub.{Hub}
 use Rattle.edit_history.specs.declared.journal.Journal.{Journal}
-use Rattle.edit_history.specs.Entries.{AreDone, IsAdded, entries_in, framework_after, session_of}
+use Rattle.edit_history.specs.Entries.{AreDone, IsAdded, edit_count, entries_in, framework_after, session_of}
 use Rattle.edit_history.specs.Journals.{opening_of}
 
 -- the framework at the beginning
 abbrev pub start_of : Hub → Framework
 start_of hub = framework_of (opened_with hub.lock).opening
 
--- how many entries the history may have
+-- how many edits the history may have
 abbrev pub limit_of : Hub → ℕ
 limit_of hub = (opened_with hub.lock).limit
 
@@ -36,14 +36,14 @@ pub record GainsOthers (session : ℕ) (before after : List HistoryEntry) : Type
   pub longer : IsPrefix before after
   pub own : entries_of session_of session after ≡ entries_of session_of session before
 
--- a commit that is taken: the history that it found continues what the session had seen, and the edit is added to it
-pub record IsCommitted (limit : ℕ) (f : Framework) (session : ℕ) (edit : Edit) (before after : List HistoryEntry)
-    (effect : Effect) : Type 0 where
+-- a commit that is taken: the history that it found continues what the session had seen, and the group is added to it
+pub record IsCommitted (limit : ℕ) (f : Framework) (session : ℕ) (edits : List Edit) (before after : List HistoryEntry)
+    (effects : List Effect) : Type 0 where
   pub found : List HistoryEntry
   pub gained : GainsOthers session before found
-  pub added : IsAdded limit f session edit found after effect
+  pub added : IsAdded limit f session edits found after effects
 
--- the entries of the history after the first `from`, each with its effect, and the history's length
+-- the entries of the history after the first `from`, each with its effects, and the history's length
 pub record IsFresh (f : Framework) (history : List HistoryEntry) (from : ℕ) (fresh : Fresh) : Type 0 where
   pub entries : entries_in fresh.entries ≡ drop from history
   pub effects : AreDone (framework_after f (take from history)) fresh.entries
@@ -67,8 +67,9 @@ pub record EndsWith {g : Ghosts Journal (Held × ℕ) HistoryEntry} (hub : Hub)
     (seats : List (Seat Journal (Held × ℕ) HistoryEntry g))
     (history : History) : Type 0 where
   pub opening : framework_of history.opening ≡ start_of hub
-  pub within : length history.entries.items ≤ limit_of hub
-  -- each entry is a seat's, and is taken on the framework after those before it, with the effect beside it
+  pub within : edit_count (entries_in history.entries.items) ≤ limit_of hub
+  -- each entry is a seat's, and each of its edits is taken on the framework after those before it, with the effect
+  -- beside it
   pub numbered : All (λ e. (0 < e.session) × (e.session ≤ sessions_of hub)) (entries_in history.entries.items)
   pub effects : AreDone (start_of hub) history.entries.items
   -- what each seat saw last is a beginning of the history, and has all its entries

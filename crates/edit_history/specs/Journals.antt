@@ -5,7 +5,7 @@ use Rattle.edit_history.specs.declared.entry.HistoryEntry.{HistoryEntry}
 use Rattle.edit_history.specs.declared.journal.Journal.{Journal}
 use Rattle.edit_history.specs.Entries.{entries_in}
 
--- what no commit changes: the framework at the beginning, and how many entries there may be
+-- what no commit changes: the framework at the beginning, and how many edits there may be
 abbrev pub opening_of : Journal → Framework × ℕ
 opening_of journal = (journal.opening, journal.limit)
 

@@ -2,26 +2,27 @@
 
 ghost use Rattle.std.specs.Prelude.{◌≡◌, IfOk};
 
+use edit_groups::copy_effects;
 use edit_rules::{Edit, Effect};
 use lists::{Items, Memory};
 use std::alloc::Global;
 
-/// One entry of a history, as contracts name it.
+/// One entry of a history, as contracts name it: a group of edits that was taken whole.
 #[derive(Drop)]
 pub struct HistoryEntry {
-    /// The number of the session that committed the edit.
+    /// The number of the session that committed the group.
     pub session: u32,
-    /// The edit.
-    pub edit: Edit,
+    /// Its edits.
+    pub edits: Items<Edit>,
 }
 
-/// One entry of a history with what it did. The effect has the entry's edit.
+/// One entry of a history with what it did. The effects have the entry's edits.
 #[derive(Drop)]
 pub struct Change {
-    /// The number of the session that committed the edit.
+    /// The number of the session that committed the group.
     pub session: u32,
-    /// What the edit did to the framework after the entries before it.
-    pub effect: Effect,
+    /// What each edit of the group did to the framework after the edits before it.
+    pub effects: Items<Effect>,
 }
 
 impl Change {
@@ -29,42 +30,10 @@ impl Change {
     pub fn copy(&self, alloc: Global) -> Result<Change, Memory>
         ensures { IfOk result (λ copy. copy ≡ self.now) }
     {
-        let effect = copy_effect(alloc, &self.effect)?;
+        let effects = copy_effects(alloc, self.effects.as_slice())?;
         Ok(Change {
             session: self.session,
-            effect,
+            effects,
         })
     }
-}
-
-/// The same effect again.
-pub(crate) fn copy_effect(alloc: Global, effect: &Effect) -> Result<Effect, Memory>
-    ensures { IfOk result (λ copy. copy ≡ effect.now) }
-{
-    let edit = effect.edit.copy(alloc)?;
-    let dropped = copy_pairs(alloc, effect.dropped.as_slice())?;
-    let gone = copy_numbers(alloc, effect.gone.as_slice())?;
-    let body = copy_numbers(alloc, effect.body.as_slice())?;
-    Ok(Effect {
-        edit,
-        rule: effect.rule,
-        dropped,
-        gone,
-        head: effect.head,
-        body,
-    })
-}
-
-/// The same pairs again.
-fn copy_pairs(alloc: Global, pairs: &[(u32, u32)]) -> Result<Items<(u32, u32)>, Memory>
-    ensures { IfOk result (λ copy. copy ≡ pairs.now) }
-{
-    Ok(Items::from_vec(Vec::from_slice(alloc, pairs)?))
-}
-
-/// The same numbers again.
-fn copy_numbers(alloc: Global, numbers: &[u32]) -> Result<Items<u32>, Memory>
-    ensures { IfOk result (λ copy. copy ≡ numbers.now) }
-{
-    Ok(Items::from_vec(Vec::from_slice(alloc, numbers)?))
 }

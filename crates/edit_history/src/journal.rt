@@ -1,20 +1,23 @@
 //! The history under the lock, with the framework that its edits have made.
 
-ghost use Rattle.std.specs.Prelude.{◌≡◌, ◌≤◌, length};
+ghost use Rattle.std.specs.Prelude.{◌≡◌, ◌≤◌};
 ghost use Rattle.edit_rules.specs.Kinds.{framework_of};
-ghost use Rattle.edit_history.specs.Entries.{AreDone, entries_in, framework_after};
+ghost use Rattle.edit_history.specs.Entries.{AreDone, edit_count, entries_in, framework_after};
 
 use crate::entry::{Change, HistoryEntry};
 use edit_rules::Framework;
 use turn_lock::Turned;
 
-/// A history of edits over an opening framework, of at most `limit` entries, with the framework after all of them.
+/// A history of groups of edits over an opening framework, of at most `limit` edits, with the framework after all of
+/// them, and how many they are.
 pub struct Journal {
     pub(crate) opening: Framework,
     pub(crate) limit: u64,
     pub(crate) framework: Framework,
     pub(crate) changes: Vec<Change>,
-    ghost within: { length changes.items ≤ limit },
+    pub(crate) count: u64,
+    ghost counted: { count ≡ edit_count (entries_in changes.items) },
+    ghost within: { edit_count (entries_in changes.items) ≤ limit },
     ghost done: { AreDone (framework_of opening) changes.items },
     ghost replayed: { framework_of framework ≡ framework_after (framework_of opening) (entries_in changes.items) },
 }
@@ -26,6 +29,7 @@ impl Drop for Journal {
             limit: _,
             framework: _,
             changes: _,
+            count: _,
         } = self;
     }
 }
@@ -41,6 +45,7 @@ impl Journal {
             limit: _,
             framework: _,
             changes,
+            count: _,
         } = self;
         (opening, changes)
     }

@@ -11,5 +11,5 @@ pub mod journal;
 
 pub use entry::{Change, HistoryEntry};
 pub use fault::CommitFault;
-pub use hub::{Committed, Fresh, History, Hub, Seat};
+pub use hub::{Committed, Fresh, GroupCommitted, History, Hub, Seat};
 pub use journal::Journal;

@@ -13,19 +13,20 @@ use Rattle.iccma_tasks.specs.Tasks.{FitsTask, IsTask, task_name}
 use Rattle.script_text.specs.declared.edit_word.EditWord.{EditWord}
 use Rattle.script_text.specs.declared.fault.ScriptCause.{ScriptCause}
 use Rattle.script_text.specs.declared.fault.ScriptCause.TheVariants.{BadSession, BadCommand, BadTask, BadNumber}
-use Rattle.script_text.specs.declared.fault.ScriptCause.TheVariants.{BadQuery}
+use Rattle.script_text.specs.declared.fault.ScriptCause.TheVariants.{BadQuery, EmptyGroup, GroupTooLong, OpenGroup}
 use Rattle.script_text.specs.Changes.{change_name, Takes}
-use Rattle.script_text.specs.ScriptFaults.{rank, asks_about, IsFirstCause, HaveAskForm, HaveChangeForm, HaveNoNumber}
-use Rattle.script_text.specs.ScriptFaults.{HaveUnknownTask, HaveUnfitTask, StandsOnCommand}
+use Rattle.script_text.specs.ScriptFaults.{rank, asks_about, IsFirstCause, HaveAskForm, HaveChangeForm, HaveForm, HaveMarkForm}
+use Rattle.script_text.specs.ScriptFaults.{HaveNoNumber, HaveUnknownTask, HaveUnfitTask, StandsOnCommand}
 use Rattle.script_text.specs.ScriptText.{asked_numbers}
-use Rattle.script_text.proofs.Names.{ask_is_no_change, changes_same, tasks_same}
+use Rattle.script_text.proofs.Names.{ask_is_no_change, begin_is_no_ask, begin_is_no_change, changes_same}
+use Rattle.script_text.proofs.Names.{end_is_no_ask, end_is_no_change, tasks_same}
 
 -- ---- fields
 
-first_same : (x y : List ℕ) (xs ys : List (List ℕ)) → x ∷ xs ≡ y ∷ ys → x ≡ y
+pub first_same : (x y : List ℕ) (xs ys : List (List ℕ)) → x ∷ xs ≡ y ∷ ys → x ≡ y
 first_same x y xs ys e = ap (λ fields. get_or fields 0 []) e
 
-others_same : (x y : List ℕ) (xs ys : List (List ℕ)) → x ∷ xs ≡ y ∷ ys → xs ≡ ys
+pub others_same : (x y : List ℕ) (xs ys : List (List ℕ)) → x ∷ xs ≡ y ∷ ys → xs ≡ ys
 others_same x y xs ys e = cc
 
 -- a command that changes the framework isn't `ask`
@@ -33,6 +34,25 @@ pub forms_differ : (fields : List (List ℕ)) → HaveChangeForm fields → Have
 forms_differ fields c a = ask_is_no_change c.change
     (first_same (change_name c.change) (codes "ask") c.arguments (a.task ∷ a.arguments)
     (sym c.fields_are ∙ a.fields_are))
+
+-- neither is `begin` or `end`
+pub change_no_mark : (change : EditWord) (arguments : List (List ℕ)) → HaveMarkForm (change_name change ∷ arguments) → ⊥
+change_no_mark change arguments (inl e) =
+    begin_is_no_change change (first_same (change_name change) (codes "begin") arguments [] e)
+change_no_mark change arguments (inr e) =
+    end_is_no_change change (first_same (change_name change) (codes "end") arguments [] e)
+
+pub ask_no_mark : (arguments : List (List ℕ)) → HaveMarkForm (codes "ask" ∷ arguments) → ⊥
+ask_no_mark arguments (inl e) = begin_is_no_ask (first_same (codes "ask") (codes "begin") arguments [] e)
+ask_no_mark arguments (inr e) = end_is_no_ask (first_same (codes "ask") (codes "end") arguments [] e)
+
+pub marks_no_change : (fields : List (List ℕ)) → HaveMarkForm fields → HaveChangeForm fields → ⊥
+marks_no_change fields mark form =
+    change_no_mark form.change form.arguments (subst HaveMarkForm form.fields_are mark)
+
+marks_no_ask : (fields : List (List ℕ)) → HaveMarkForm fields → HaveAskForm fields → ⊥
+marks_no_ask fields mark form =
+    ask_no_mark (form.task ∷ form.arguments) (subst HaveMarkForm form.fields_are mark)
 
 -- the arguments of the one form
 ask_arguments : (task : List ℕ) (arguments : List (List ℕ)) (form : HaveAskForm (codes "ask" ∷ task ∷ arguments))
@@ -82,27 +102,36 @@ from_command fields BadCommand stands = omega arith
 from_command fields BadTask stands = omega arith
 from_command fields BadNumber stands = omega arith
 from_command fields BadQuery stands = omega arith
+from_command fields OpenGroup stands = absurd stands
+from_command fields GroupTooLong stands = absurd stands
+from_command fields EmptyGroup stands = absurd stands
 
 -- where the fields have a form, it isn't BadCommand either
-from_task : (fields : List (List ℕ)) → HaveChangeForm fields ⊎ HaveAskForm fields → (other : ScriptCause)
+from_task : (fields : List (List ℕ)) → HaveForm fields → (other : ScriptCause)
     → StandsOnCommand fields other → 3 ≤ rank other
 from_task fields form BadSession stands = absurd stands
 from_task fields form BadCommand stands = absurd (stands form)
 from_task fields form BadTask stands = omega arith
 from_task fields form BadNumber stands = omega arith
 from_task fields form BadQuery stands = omega arith
+from_task fields form OpenGroup stands = absurd stands
+from_task fields form GroupTooLong stands = absurd stands
+from_task fields form EmptyGroup stands = absurd stands
 
 -- where no unknown task is asked, it isn't BadTask either
-from_number : (fields : List (List ℕ)) → HaveChangeForm fields ⊎ HaveAskForm fields → (HaveUnknownTask fields → ⊥)
+from_number : (fields : List (List ℕ)) → HaveForm fields → (HaveUnknownTask fields → ⊥)
     → (other : ScriptCause) → StandsOnCommand fields other → 4 ≤ rank other
 from_number fields form known BadSession stands = absurd stands
 from_number fields form known BadCommand stands = absurd (stands form)
 from_number fields form known BadTask stands = absurd (known stands)
 from_number fields form known BadNumber stands = omega arith
 from_number fields form known BadQuery stands = omega arith
+from_number fields form known OpenGroup stands = absurd stands
+from_number fields form known GroupTooLong stands = absurd stands
+from_number fields form known EmptyGroup stands = absurd stands
 
 -- where all numbers are spelled, it can only be BadQuery
-from_query : (fields : List (List ℕ)) → HaveChangeForm fields ⊎ HaveAskForm fields → (HaveUnknownTask fields → ⊥)
+from_query : (fields : List (List ℕ)) → HaveForm fields → (HaveUnknownTask fields → ⊥)
     → (StandsOnCommand fields BadNumber → ⊥) → (other : ScriptCause) → StandsOnCommand fields other
     → HaveUnfitTask fields × (5 ≤ rank other)
 from_query fields form known spelled BadSession stands = absurd stands
@@ -110,15 +139,19 @@ from_query fields form known spelled BadCommand stands = absurd (stands form)
 from_query fields form known spelled BadTask stands = absurd (known stands)
 from_query fields form known spelled BadNumber stands = absurd (spelled stands)
 from_query fields form known spelled BadQuery stands = (stands, omega arith)
+from_query fields form known spelled OpenGroup stands = absurd stands
+from_query fields form known spelled GroupTooLong stands = absurd stands
+from_query fields form known spelled EmptyGroup stands = absurd stands
 
 -- ---- the causes
 
 pub bad_command : (fields : List (List ℕ)) → (HaveChangeForm fields → ⊥) → (HaveAskForm fields → ⊥)
-    → IsFirstCause (StandsOnCommand fields) BadCommand
-bad_command fields change ask = record {
+    → (HaveMarkForm fields → ⊥) → IsFirstCause (StandsOnCommand fields) BadCommand
+bad_command fields change ask mark = record {
   stands = λ form. elim form [
     | inl f ↦ change f
-    | inr f ↦ ask f
+    | inr (inl f) ↦ ask f
+    | inr (inr f) ↦ mark f
   ];
   first = from_command fields;
 }
@@ -134,6 +167,7 @@ bad_change change arguments takes_not = bad_command (change_name change ∷ argu
     (subst (λ xs. Takes form.change (length xs)) (change_arguments change arguments form) form.takes)))
     (λ form. ask_is_no_change change
     (first_same (change_name change) (codes "ask") arguments (form.task ∷ form.arguments) form.fields_are))
+    (change_no_mark change arguments)
 
 pub bad_change_number : (change : EditWord) (arguments : List (List ℕ)) → Takes change (length arguments)
     → HaveNoNumber arguments → IsFirstCause (StandsOnCommand (change_name change ∷ arguments)) BadNumber
@@ -161,6 +195,7 @@ ask_too_long task arguments long = bad_command (ask_fields task arguments)
     (λ form. ask_is_no_change form.change
     (first_same (change_name form.change) (codes "ask") form.arguments (task ∷ arguments) (sym form.fields_are)))
     (λ form. let few = subst (λ xs. length xs ≤ 1) (ask_arguments task arguments form) form.few in absurd (omega arith))
+    (ask_no_mark (task ∷ arguments))
 
 pub ask_alone : IsFirstCause (StandsOnCommand (codes "ask" ∷ [])) BadCommand
 ask_alone = bad_command (codes "ask" ∷ [])
@@ -168,6 +203,7 @@ ask_alone = bad_command (codes "ask" ∷ [])
     (first_same (change_name form.change) (codes "ask") form.arguments [] (sym form.fields_are)))
     (λ form. let long : 1 ≡ length (codes "ask" ∷ form.task ∷ form.arguments) = ap length form.fields_are in
     absurd (omega arith))
+    (ask_no_mark [])
 
 pub bad_task : (task : List ℕ) (arguments : List (List ℕ)) → length arguments ≤ 1
     → ((t : Task) → IsTask t → ¬ (task_name t ≡ task))
@@ -176,7 +212,7 @@ bad_task task arguments few unknown =
     let form = ask_form task arguments few in
     record {
       stands = record { form = form; unknown = unknown };
-      first = from_task (ask_fields task arguments) (inr form);
+      first = from_task (ask_fields task arguments) (inr (inl form));
     }
 
 known_task : (task : List ℕ) (arguments : List (List ℕ)) (t : Task) → IsTask t → task_name t ≡ task
@@ -190,7 +226,7 @@ bad_ask_number task arguments t few is named none =
     let form = ask_form task arguments few in
     record {
       stands = inr (form, none);
-      first = from_number (ask_fields task arguments) (inr form) (known_task task arguments t is named);
+      first = from_number (ask_fields task arguments) (inr (inl form)) (known_task task arguments t is named);
     }
 
 -- a query that was made fits its task
@@ -249,7 +285,7 @@ bad_query task arguments t number few is named spelled unfit =
         named = named;
         unfit = λ e. counts_tell t.problem number unfit (long ∙ e);
       };
-      first = λ other stands. (from_query (ask_fields task arguments) (inr form) (known_task task arguments t is named)
+      first = λ other stands. (from_query (ask_fields task arguments) (inr (inl form)) (known_task task arguments t is named)
           (ask_spelled task arguments (asked_numbers number) spelled) other stands).1;
     }
 
@@ -278,7 +314,7 @@ ask_is_good task arguments t number is named spelled fits cause stands =
     let long = AllZip-long IsNumber arguments (asked_numbers number) spelled in
     let few : length arguments ≤ 1 = few_asked number (sym long) in
     let form = ask_form task arguments few in
-    let unfit = (from_query (ask_fields task arguments) (inr form) (known_task task arguments t is named)
+    let unfit = (from_query (ask_fields task arguments) (inr (inl form)) (known_task task arguments t is named)
     (ask_spelled task arguments (asked_numbers number) spelled) cause stands).0 in
     let same : unfit.task ≡ t = tasks_same unfit.task t (unfit.named ∙ ask_task task arguments unfit.form ∙ sym named)
     in
@@ -289,3 +325,42 @@ ask_is_good task arguments t number is named spelled fits cause stands =
     few_asked : (number : Option ℕ) → length arguments ≡ length (asked_numbers number) → length arguments ≤ 1
     few_asked None e = omega arith
     few_asked (Some n) e = omega arith
+
+-- `begin` or `end` alone is good, and nothing may follow it
+pub mark_is_good : (fields : List (List ℕ)) → HaveMarkForm fields → (cause : ScriptCause)
+    → StandsOnCommand fields cause → ⊥
+mark_is_good fields mark BadSession stands = stands
+mark_is_good fields mark BadCommand stands = stands (inr (inr mark))
+mark_is_good fields mark BadTask stands = marks_no_ask fields mark stands.form
+mark_is_good fields mark BadNumber (inl h) = marks_no_change fields mark h.0
+mark_is_good fields mark BadNumber (inr h) = marks_no_ask fields mark h.0
+mark_is_good fields mark BadQuery stands = marks_no_ask fields mark stands.form
+mark_is_good fields mark OpenGroup stands = stands
+mark_is_good fields mark GroupTooLong stands = stands
+mark_is_good fields mark EmptyGroup stands = stands
+
+pub bad_begin : (argument : List ℕ) (more : List (List ℕ))
+    → IsFirstCause (StandsOnCommand (codes "begin" ∷ argument ∷ more)) BadCommand
+bad_begin argument more = bad_command (codes "begin" ∷ argument ∷ more)
+    (λ form. begin_is_no_change form.change
+    (first_same (change_name form.change) (codes "begin") form.arguments (argument ∷ more) (sym form.fields_are)))
+    (λ form. begin_is_no_ask
+    (first_same (codes "ask") (codes "begin") (form.task ∷ form.arguments) (argument ∷ more) (sym form.fields_are)))
+    (too_long argument more)
+  where
+    too_long : (argument : List ℕ) (more : List (List ℕ)) → HaveMarkForm (codes "begin" ∷ argument ∷ more) → ⊥
+    too_long argument more (inl e) = let long = ap length e in absurd (omega (arith, long))
+    too_long argument more (inr e) = let long = ap length e in absurd (omega (arith, long))
+
+pub bad_end : (argument : List ℕ) (more : List (List ℕ))
+    → IsFirstCause (StandsOnCommand (codes "end" ∷ argument ∷ more)) BadCommand
+bad_end argument more = bad_command (codes "end" ∷ argument ∷ more)
+    (λ form. end_is_no_change form.change
+    (first_same (change_name form.change) (codes "end") form.arguments (argument ∷ more) (sym form.fields_are)))
+    (λ form. end_is_no_ask
+    (first_same (codes "ask") (codes "end") (form.task ∷ form.arguments) (argument ∷ more) (sym form.fields_are)))
+    (too_long argument more)
+  where
+    too_long : (argument : List ℕ) (more : List (List ℕ)) → HaveMarkForm (codes "end" ∷ argument ∷ more) → ⊥
+    too_long argument more (inl e) = let long = ap length e in absurd (omega (arith, long))
+    too_long argument more (inr e) = let long = ap length e in absurd (omega (arith, long))

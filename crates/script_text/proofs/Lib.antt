@@ -6,4 +6,6 @@ mod AskedLines
 mod EditLines
 pub mod FirstFaults
 mod LineCauses
+mod GroupCauses
+mod SlotLemmas
 pub mod OneScript

@@ -1,5 +1,5 @@
 -- Which cause is told of a line.
-use Rattle.std.proofs.Common.{◌≡◌, ℕ, ◌≤◌, List, [], ◌∷◌, length, refl, sym, ap, subst, ◌∙◌, arith}
+use Rattle.std.proofs.Common.{◌≡◌, ℕ, ◌≤◌, List, [], ◌∷◌, length, refl, sym, ap, subst, ◌∙◌, arith, inl, inr}
 use Rattle.std.specs.Prelude.{codes}
 use Rattle.std.specs.List.{AllZip}
 use Rattle.std.proofs.lemmas.Slice.Zip.{AllZip-long}
@@ -14,15 +14,15 @@ use Rattle.script_text.specs.declared.fault.LineStop.{LineStop}
 use Rattle.script_text.specs.declared.fault.LineStop.TheVariants.{Wrong, Memory}
 use Rattle.script_text.specs.declared.fault.ScriptCause.{ScriptCause}
 use Rattle.script_text.specs.declared.fault.ScriptCause.TheVariants.{BadSession, BadCommand, BadTask, BadNumber}
-use Rattle.script_text.specs.declared.fault.ScriptCause.TheVariants.{BadQuery}
-use Rattle.script_text.specs.declared.script.ScriptCommand.{ScriptCommand}
-use Rattle.script_text.specs.declared.script.ScriptCommand.TheVariants.{Edit as change_by, Ask}
-use Rattle.script_text.specs.declared.script.ScriptLine.{ScriptLine}
+use Rattle.script_text.specs.declared.fault.ScriptCause.TheVariants.{BadQuery, EmptyGroup, GroupTooLong, OpenGroup}
+use Rattle.script_text.specs.declared.text_line.LineCommand.{LineCommand}
+use Rattle.script_text.specs.declared.text_line.LineCommand.TheVariants.{Ask, Begin, Edit as change_by, End}
+use Rattle.script_text.specs.declared.text_line.TextLine.{TextLine}
 use Rattle.script_text.specs.Changes.{Takes, change_name, change_of, edit_numbers}
 use Rattle.script_text.specs.ScriptFaults.{rank, BeginWithSession, IsFirstCause, StandsOn, StandsOnCommand}
-use Rattle.script_text.specs.ScriptText.{AreAskFields, AreCommandFields, AreEditFields, IsScriptLine, SpellsSession}
+use Rattle.script_text.specs.ScriptText.{AreAskFields, AreCommandFields, AreEditFields, IsTextLine, SpellsSession}
 use Rattle.script_text.specs.Steps.{IfWrong, TakesSession}
-use Rattle.script_text.proofs.CommandCauses.{ask_is_good, change_is_good}
+use Rattle.script_text.proofs.CommandCauses.{ask_is_good, change_is_good, mark_is_good}
 
 -- ---- a cause of the command is one of the line
 
@@ -33,6 +33,9 @@ below fields BadCommand stands = stands
 below fields BadTask stands = stands
 below fields BadNumber stands = stands
 below fields BadQuery stands = stands
+below fields OpenGroup stands = absurd stands
+below fields GroupTooLong stands = absurd stands
+below fields EmptyGroup stands = absurd stands
 
 above : (fields : List (List ℕ)) → BeginWithSession fields → (cause : ScriptCause) → StandsOn fields cause
     → StandsOnCommand (behind_first fields) cause
@@ -41,8 +44,11 @@ above fields session BadCommand stands = stands
 above fields session BadTask stands = stands
 above fields session BadNumber stands = stands
 above fields session BadQuery stands = stands
+above fields session OpenGroup stands = absurd stands
+above fields session GroupTooLong stands = absurd stands
+above fields session EmptyGroup stands = absurd stands
 
-begins : (fields others : List (List ℕ)) (session : ℕ) → TakesSession fields session others → BeginWithSession fields
+pub begins : (fields others : List (List ℕ)) (session : ℕ) → TakesSession fields session others → BeginWithSession fields
 begins fields others session takes = record {
   text = takes.text;
   others = others;
@@ -73,13 +79,16 @@ lowest BadCommand = omega arith
 lowest BadTask = omega arith
 lowest BadNumber = omega arith
 lowest BadQuery = omega arith
+lowest OpenGroup = omega arith
+lowest GroupTooLong = omega arith
+lowest EmptyGroup = omega arith
 
 pub session_told : (fields : List (List ℕ)) → (BeginWithSession fields → ⊥) → IsFirstCause (StandsOn fields) BadSession
 session_told fields none = record { stands = none; first = λ other stands. lowest other }
 
 -- ---- a good line
 
-edit_takes : (edit : Edit) (count : ℕ) → count ≡ length (edit_numbers edit) → Takes (change_of edit) count
+pub edit_takes : (edit : Edit) (count : ℕ) → count ≡ length (edit_numbers edit) → Takes (change_of edit) count
 edit_takes (ArgAdd n) count e = e
 edit_takes (ArgDrop n) count e = e
 edit_takes (AttackAdd b a) count e = e
@@ -105,13 +114,15 @@ asked_is_good fields asked h cause stands =
     ask_is_good (task_name asked.task) h.numbers asked.task asked.number h.task_is refl h.spelled h.fits cause
     (subst (λ fs. StandsOnCommand fs cause) h.fields_are stands)
 
-command_is_good : (fields : List (List ℕ)) (command : ScriptCommand) → AreCommandFields fields command
+command_is_good : (fields : List (List ℕ)) (command : LineCommand) → AreCommandFields fields command
     → (cause : ScriptCause) → StandsOnCommand fields cause → ⊥
 command_is_good fields (change_by edit) h cause stands = edit_is_good fields edit h cause stands
 command_is_good fields (Ask asked) h cause stands = asked_is_good fields asked h cause stands
+command_is_good fields Begin h cause stands = mark_is_good fields (inl h) cause stands
+command_is_good fields End h cause stands = mark_is_good fields (inr h) cause stands
 
 -- no cause stands on a line of a script
-pub line_is_good : (text : List ℕ) (line : ScriptLine) → IsScriptLine text line → (cause : ScriptCause)
+pub line_is_good : (text : List ℕ) (line : TextLine) → IsTextLine text line → (cause : ScriptCause)
     → StandsOn (field_texts text) cause → ⊥
 line_is_good text line h cause stands =
     let takes : TakesSession (field_texts text) line.session h.others

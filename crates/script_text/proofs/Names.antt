@@ -60,6 +60,48 @@ not_k DelCon e = absurd (omega arith)
 not_k Rule e = absurd (omega arith)
 not_k NoRule e = absurd (omega arith)
 
+-- nor is the first byte of any that of `begin` or `end`
+not_b : (change : EditWord) → get_or (change_name change) 0 0 ≡ 98 → ⊥
+not_b Arg e = absurd (omega arith)
+not_b NoArg e = absurd (omega arith)
+not_b Att e = absurd (omega arith)
+not_b NoAtt e = absurd (omega arith)
+not_b Asm e = absurd (omega arith)
+not_b NoAsm e = absurd (omega arith)
+not_b Con e = absurd (omega arith)
+not_b AddCon e = absurd (omega arith)
+not_b DelCon e = absurd (omega arith)
+not_b Rule e = absurd (omega arith)
+not_b NoRule e = absurd (omega arith)
+
+not_e : (change : EditWord) → get_or (change_name change) 0 0 ≡ 101 → ⊥
+not_e Arg e = absurd (omega arith)
+not_e NoArg e = absurd (omega arith)
+not_e Att e = absurd (omega arith)
+not_e NoAtt e = absurd (omega arith)
+not_e Asm e = absurd (omega arith)
+not_e NoAsm e = absurd (omega arith)
+not_e Con e = absurd (omega arith)
+not_e AddCon e = absurd (omega arith)
+not_e DelCon e = absurd (omega arith)
+not_e Rule e = absurd (omega arith)
+not_e NoRule e = absurd (omega arith)
+
+pub begin_is_no_change : (change : EditWord) → change_name change ≡ codes "begin" → ⊥
+begin_is_no_change change e = not_b change (ap (λ name. get_or name 0 0) e)
+
+pub end_is_no_change : (change : EditWord) → change_name change ≡ codes "end" → ⊥
+end_is_no_change change e = not_e change (ap (λ name. get_or name 0 0) e)
+
+pub begin_is_no_ask : codes "ask" ≡ codes "begin" → ⊥
+begin_is_no_ask e = let first = ap (λ name. get_or name 0 0) e in absurd (omega (arith, first))
+
+pub end_is_no_ask : codes "ask" ≡ codes "end" → ⊥
+end_is_no_ask e = let first = ap (λ name. get_or name 0 0) e in absurd (omega (arith, first))
+
+pub begin_is_no_end : codes "begin" ≡ codes "end" → ⊥
+begin_is_no_end e = let first = ap (λ name. get_or name 0 0) e in absurd (omega (arith, first))
+
 pub ask_is_no_change : (change : EditWord) → change_name change ≡ codes "ask" → ⊥
 ask_is_no_change change e = not_k change (ap (λ name. get_or name 2 0) e)
 

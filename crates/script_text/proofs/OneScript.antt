@@ -9,24 +9,21 @@ use Rattle.iccma_tasks.specs.declared.task.Task.{Task}
 use Rattle.iccma_tasks.specs.Tasks.{Asked, task_name}
 use Rattle.edit_rules.specs.declared.edit.Edit.{Edit}
 use Rattle.script_text.specs.declared.edit_word.EditWord.{EditWord}
-use Rattle.script_text.specs.declared.script.ScriptCommand.{ScriptCommand}
-use Rattle.script_text.specs.declared.script.ScriptCommand.TheVariants.{Edit as change_by, Ask}
+use Rattle.script_text.specs.declared.text_line.LineCommand.{LineCommand}
+use Rattle.script_text.specs.declared.text_line.LineCommand.TheVariants.{Ask, Begin, Edit as change_by, End}
 use Rattle.script_text.specs.declared.script.Script.{Script}
-use Rattle.script_text.specs.declared.script.ScriptLine.{ScriptLine}
+use Rattle.script_text.specs.declared.text_line.TextLine.{TextLine}
 use Rattle.script_text.specs.Changes.{change_name, change_of, edit_numbers}
-use Rattle.script_text.specs.ScriptText.{AreAskFields, AreCommandFields, AreEditFields, IsScript, IsScriptLine}
-use Rattle.script_text.specs.ScriptText.{asked_numbers}
-use Rattle.script_text.proofs.Names.{ask_is_no_change, changes_same, edits_same, tasks_same}
+use Rattle.script_text.specs.ScriptText.{AreAskFields, AreCommandFields, AreEditFields, AreTextLines, IsScript}
+use Rattle.script_text.specs.ScriptText.{IsTextLine, asked_numbers}
+use Rattle.script_text.specs.Groups.{commands_of, no_groups}
+use Rattle.script_text.proofs.CommandCauses.{first_same, others_same}
+use Rattle.script_text.proofs.Names.{ask_is_no_change, begin_is_no_ask, begin_is_no_change, begin_is_no_end}
+use Rattle.script_text.proofs.Names.{changes_same, edits_same, end_is_no_ask, end_is_no_change, tasks_same}
 use Rattle.lists.proofs.Zips.{zip_same}
 
 numbers_same : (texts : List (List ℕ)) (ms ns : List ℕ) → AllZip IsNumber texts ms → AllZip IsNumber texts ns → ms ≡ ns
 numbers_same = zip_same IsNumber (λ text m n a b. sym a.value ∙ b.value)
-
-first_same : (x y : List ℕ) (xs ys : List (List ℕ)) → x ∷ xs ≡ y ∷ ys → x ≡ y
-first_same x y xs ys e = ap (λ fields. get_or fields 0 []) e
-
-others_same : (x y : List ℕ) (xs ys : List (List ℕ)) → x ∷ xs ≡ y ∷ ys → xs ≡ ys
-others_same x y xs ys e = cc
 
 edit_same : (fields : List (List ℕ)) (d e : Edit) → AreEditFields fields d → AreEditFields fields e → d ≡ e
 edit_same fields d e a b =
@@ -58,7 +55,7 @@ ask_same fields p q a b =
     asked_of : p.task ≡ q.task → p.number ≡ q.number → p ≡ q
     asked_of tasks numbers = λ i. record { task = tasks i; number = numbers i }
 
-command_same : (fields : List (List ℕ)) (c d : ScriptCommand) → AreCommandFields fields c → AreCommandFields fields d →
+command_same : (fields : List (List ℕ)) (c d : LineCommand) → AreCommandFields fields c → AreCommandFields fields d →
     c ≡ d
 command_same fields (change_by a) (change_by b) h k = ap change_by (edit_same fields a b h k)
 command_same fields (change_by a) (Ask q) h k = absurd (ask_is_no_change (change_of a)
@@ -66,8 +63,28 @@ command_same fields (change_by a) (Ask q) h k = absurd (ask_is_no_change (change
 command_same fields (Ask q) (change_by a) h k = absurd (ask_is_no_change (change_of a)
     (first_same _ _ k.numbers (task_name q.task ∷ h.numbers) (sym k.fields_are ∙ h.fields_are)))
 command_same fields (Ask p) (Ask q) h k = ap Ask (ask_same fields p q h k)
+command_same fields (change_by a) Begin h k = absurd (begin_is_no_change (change_of a)
+    (first_same _ _ h.numbers [] (sym h.fields_are ∙ k)))
+command_same fields (change_by a) End h k = absurd (end_is_no_change (change_of a)
+    (first_same _ _ h.numbers [] (sym h.fields_are ∙ k)))
+command_same fields Begin (change_by a) h k = absurd (begin_is_no_change (change_of a)
+    (first_same _ _ k.numbers [] (sym k.fields_are ∙ h)))
+command_same fields End (change_by a) h k = absurd (end_is_no_change (change_of a)
+    (first_same _ _ k.numbers [] (sym k.fields_are ∙ h)))
+command_same fields (Ask q) Begin h k = absurd (begin_is_no_ask
+    (first_same _ _ (task_name q.task ∷ h.numbers) [] (sym h.fields_are ∙ k)))
+command_same fields (Ask q) End h k = absurd (end_is_no_ask
+    (first_same _ _ (task_name q.task ∷ h.numbers) [] (sym h.fields_are ∙ k)))
+command_same fields Begin (Ask q) h k = absurd (begin_is_no_ask
+    (first_same _ _ (task_name q.task ∷ k.numbers) [] (sym k.fields_are ∙ h)))
+command_same fields End (Ask q) h k = absurd (end_is_no_ask
+    (first_same _ _ (task_name q.task ∷ k.numbers) [] (sym k.fields_are ∙ h)))
+command_same fields Begin Begin h k = refl
+command_same fields Begin End h k = absurd (begin_is_no_end (first_same _ _ [] [] (sym h ∙ k)))
+command_same fields End Begin h k = absurd (begin_is_no_end (first_same _ _ [] [] (sym k ∙ h)))
+command_same fields End End h k = refl
 
-line_same : (text : List ℕ) (l m : ScriptLine) → IsScriptLine text l → IsScriptLine text m → l ≡ m
+pub line_same : (text : List ℕ) (l m : TextLine) → IsTextLine text l → IsTextLine text m → l ≡ m
 line_same text l m a b =
     let both = sym a.fields ∙ b.fields in
     let texts : a.session ≡ b.session = first_same a.session b.session a.others b.others both in
@@ -78,8 +95,11 @@ line_same text l m a b =
     (subst (λ fs. AreCommandFields fs l.command) behind a.command_is) b.command_is in
     λ i. record { session = sessions i; command = commands i }
 
+pub lines_same : (texts : List LineText) (l m : List TextLine) → AreTextLines texts l → AreTextLines texts m → l ≡ m
+lines_same = zip_same (λ text line. IsTextLine text.text line) (λ text l m. line_same text.text l m)
+
 pub script_same : (bytes : List ℕ) (s t : Script) → IsScript bytes s → IsScript bytes t → s ≡ t
 script_same bytes s t a b =
-    let lines : s.lines ≡ t.lines = zip_same (λ text line. IsScriptLine text.text line)
-    (λ text l m. line_same text.text l m) (kept_lines bytes) s.lines t.lines a b in
+    let read : a.lines ≡ b.lines = lines_same (kept_lines bytes) a.lines b.lines a.are_lines b.are_lines in
+    let lines : s.lines ≡ t.lines = a.commands ∙ (ap (commands_of no_groups) read ∙ sym b.commands) in
     λ i. record { lines = lines i }

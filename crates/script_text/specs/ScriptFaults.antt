@@ -1,6 +1,7 @@
 -- The faults of a script's text: which cause stands at which line, and which is told.
-use Rattle.std.specs.Prelude.{◌≡◌, ℕ, ◌<◌, ◌≤◌, ◌⊎◌, List, [], ◌∷◌, length, Contains, codes}
-use Rattle.num_text.specs.Cuts.{LineText, field_texts}
+use Rattle.std.specs.Prelude.{◌≡◌, ℕ, ◌+◌, ◌<◌, ◌≤◌, ◌⊎◌, List, [], ◌∷◌, ◌++◌, length, Contains, codes}
+use Rattle.std.specs.Prelude.{Bool, true, false, Option, Some, None}
+use Rattle.num_text.specs.Cuts.{LineText, field_texts, lines_of}
 use Rattle.num_text.specs.Lines.{kept_lines}
 use Rattle.num_text.specs.Number.{IsNumber}
 use Rattle.iccma_tasks.specs.declared.task.Problem.{Problem}
@@ -8,14 +9,18 @@ use Rattle.iccma_tasks.specs.declared.task.Problem.TheVariants.{Credulous, Scept
 use Rattle.iccma_tasks.specs.declared.task.Task.{Task}
 use Rattle.iccma_tasks.specs.AnswerText.{behind_first}
 use Rattle.iccma_tasks.specs.Tasks.{IsTask, task_name}
+use Rattle.edit_rules.specs.declared.edit.Edit.{Edit}
+use Rattle.edit_rules.specs.declared.edit.TheConstants.{MAX_GROUP}
 use Rattle.script_text.specs.declared.edit_word.EditWord.{EditWord}
 use Rattle.script_text.specs.declared.fault.ScriptCause.{ScriptCause}
 use Rattle.script_text.specs.declared.fault.ScriptCause.TheVariants.{BadSession, BadCommand, BadTask, BadNumber}
-use Rattle.script_text.specs.declared.fault.ScriptCause.TheVariants.{BadQuery}
+use Rattle.script_text.specs.declared.fault.ScriptCause.TheVariants.{BadQuery, EmptyGroup, GroupTooLong, OpenGroup}
 use Rattle.script_text.specs.declared.fault.ScriptFault.{ScriptFault}
 use Rattle.script_text.specs.declared.fault.ScriptFault.TheVariants.{At, Memory}
 use Rattle.script_text.specs.Changes.{change_name, Takes}
-use Rattle.script_text.specs.ScriptText.{SpellsSession}
+use Rattle.script_text.specs.declared.text_line.TextLine.{TextLine}
+use Rattle.script_text.specs.Groups.{Groups, after_lines, is_open, no_groups}
+use Rattle.script_text.specs.ScriptText.{AreTextLines, SpellsSession}
 
 -- the name of a cause
 abbrev pub cause_name : ScriptCause → List ℕ
@@ -24,6 +29,9 @@ cause_name BadCommand = codes "BadCommand"
 cause_name BadTask = codes "BadTask"
 cause_name BadNumber = codes "BadNumber"
 cause_name BadQuery = codes "BadQuery"
+cause_name OpenGroup = codes "OpenGroup"
+cause_name GroupTooLong = codes "GroupTooLong"
+cause_name EmptyGroup = codes "EmptyGroup"
 
 -- where several causes stand on one line, the one of the lowest rank is told
 abbrev pub rank : ScriptCause → ℕ
@@ -32,6 +40,9 @@ rank BadCommand = 2
 rank BadTask = 3
 rank BadNumber = 4
 rank BadQuery = 5
+rank OpenGroup = 6
+rank GroupTooLong = 7
+rank EmptyGroup = 8
 
 -- of the causes that stand, this one is told
 pub record IsFirstCause (Stands : ScriptCause → Type 0) (cause : ScriptCause) : Type 0 where
@@ -59,6 +70,14 @@ pub record HaveAskForm (fields : List (List ℕ)) : Type 0 where
   pub arguments : List (List ℕ)
   pub fields_are : fields ≡ codes "ask" ∷ task ∷ arguments
   pub few : length arguments ≤ 1
+
+-- `begin` or `end` alone
+abbrev pub HaveMarkForm : List (List ℕ) → Type 0
+HaveMarkForm fields = (fields ≡ codes "begin" ∷ []) ⊎ (fields ≡ codes "end" ∷ [])
+
+-- a command's name, and as many fields as it takes
+abbrev pub HaveForm : List (List ℕ) → Type 0
+HaveForm fields = HaveChangeForm fields ⊎ (HaveAskForm fields ⊎ HaveMarkForm fields)
 
 -- what is asked is no task's name
 pub record HaveUnknownTask (fields : List (List ℕ)) : Type 0 where
@@ -89,28 +108,94 @@ pub record HaveUnfitTask (fields : List (List ℕ)) : Type 0 where
 -- the cause stands on the fields behind the session's number
 abbrev pub StandsOnCommand : List (List ℕ) → ScriptCause → Type 0
 StandsOnCommand fields BadSession = ⊥
-StandsOnCommand fields BadCommand = ¬ (HaveChangeForm fields ⊎ HaveAskForm fields)
+StandsOnCommand fields BadCommand = ¬ HaveForm fields
 StandsOnCommand fields BadTask = HaveUnknownTask fields
 StandsOnCommand fields BadNumber = ((form : HaveChangeForm fields) × HaveNoNumber form.arguments)
     ⊎ ((form : HaveAskForm fields) × HaveNoNumber form.arguments)
 StandsOnCommand fields BadQuery = HaveUnfitTask fields
+StandsOnCommand fields OpenGroup = ⊥
+StandsOnCommand fields GroupTooLong = ⊥
+StandsOnCommand fields EmptyGroup = ⊥
 
 -- the cause stands on the fields of a line
 abbrev pub StandsOn : List (List ℕ) → ScriptCause → Type 0
 StandsOn fields BadSession = ¬ BeginWithSession fields
 StandsOn fields cause = StandsOnCommand (behind_first fields) cause
 
--- the cause stands at one of the lines, the one of this number
+-- ---- groups
+
+-- the name of a command that may not stand inside a group, or of one that may not stand outside
+abbrev pub IsMisplacedName : Bool → List ℕ → Type 0
+IsMisplacedName true name = (name ≡ codes "ask") ⊎ (name ≡ codes "begin")
+IsMisplacedName false name = name ≡ codes "end"
+
+-- the fields begin with a name that may not stand where this group is open, or none
+pub record IsMisplaced (group : Option (List Edit)) (fields : List (List ℕ)) : Type 0 where
+  pub name : List ℕ
+  pub others : List (List ℕ)
+  pub fields_are : fields ≡ name ∷ others
+  pub misplaced : IsMisplacedName (is_open group) name
+
+-- an edit more than a group may have
+abbrev pub IsTooMany : Option (List Edit) → List (List ℕ) → Type 0
+IsTooMany None fields = ⊥
+IsTooMany (Some edits) fields = HaveChangeForm fields × (MAX_GROUP ≤ length edits)
+
+-- the cause stands on the fields behind the session's number, by the group that the session has open
+abbrev pub StandsInGroup : Option (List Edit) → List (List ℕ) → ScriptCause → Type 0
+StandsInGroup group fields BadSession = ⊥
+StandsInGroup group fields BadCommand = IsMisplaced group fields
+StandsInGroup group fields BadTask = ⊥
+StandsInGroup group fields BadNumber = ⊥
+StandsInGroup group fields BadQuery = ⊥
+StandsInGroup group fields OpenGroup = ⊥
+StandsInGroup group fields GroupTooLong = IsTooMany group fields
+StandsInGroup group fields EmptyGroup = (fields ≡ codes "end" ∷ []) × (group ≡ Some [])
+
+-- the cause stands on the fields of a line by the group that the line's session has open
+pub record StandsByGroup (groups : Groups) (fields : List (List ℕ)) (cause : ScriptCause) : Type 0 where
+  pub session : ℕ
+  pub text : List ℕ
+  pub others : List (List ℕ)
+  pub fields_are : fields ≡ text ∷ others
+  pub session_is : SpellsSession text session
+  pub stands : StandsInGroup (groups session) others cause
+
+-- the cause stands on the fields of a line by a group that the lines before it leave open
+pub record StandsBehind (before : List LineText) (fields : List (List ℕ)) (cause : ScriptCause) : Type 0 where
+  pub read : List TextLine
+  pub are_lines : AreTextLines before read
+  pub stands : StandsByGroup (after_lines read no_groups) fields cause
+
+-- ---- the text
+
+-- the cause stands at one of the lines, the line of this number
 pub record StandsAt (lines : List LineText) (number : ℕ) (cause : ScriptCause) : Type 0 where
+  pub before : List LineText
   pub line : LineText
-  pub member : Contains lines line
+  pub behind : List LineText
+  pub lines_are : lines ≡ before ++ line ∷ behind
   pub number_is : number ≡ line.number
-  pub stands : StandsOn (field_texts line.text) cause
+  pub stands : StandsOn (field_texts line.text) cause ⊎ StandsBehind before (field_texts line.text) cause
+
+-- a group is open behind the last line; this is told at the number of all lines and one more
+pub record IsLeftOpen (bytes : List ℕ) (number : ℕ) : Type 0 where
+  pub read : List TextLine
+  pub are_lines : AreTextLines (kept_lines bytes) read
+  pub session : ℕ
+  pub edits : List Edit
+  pub left : after_lines read no_groups session ≡ Some edits
+  pub number_is : number ≡ length (lines_of bytes) + 1
+
+-- the cause stands at the line of the bytes
+abbrev pub Stands : List ℕ → ℕ → ScriptCause → Type 0
+Stands bytes number cause =
+    StandsAt (kept_lines bytes) number cause ⊎ ((cause ≡ OpenGroup) × IsLeftOpen bytes number)
 
 -- the cause stands at the line of the bytes, every other one at a later line or behind it in the order
 pub record IsFirstFault (bytes : List ℕ) (number : ℕ) (cause : ScriptCause) : Type 0 where
-  pub stands : StandsAt (kept_lines bytes) number cause
-  pub first : (l : ℕ) (c : ScriptCause) → StandsAt (kept_lines bytes) l c
+  pub stands : Stands bytes number cause
+  pub first : (l : ℕ) (c : ScriptCause) → Stands bytes l c
       → (number < l) ⊎ ((number ≡ l) × (rank cause ≤ rank c))
 
 -- where the fault is that of a line, it is the first
@@ -120,4 +205,4 @@ IsToldOf bytes Memory = Unit {0}
 
 -- no cause stands at any line of the bytes
 pub record IsFaultless (bytes : List ℕ) : Type 0 where
-  pub none : (line : ℕ) (cause : ScriptCause) → StandsAt (kept_lines bytes) line cause → ⊥
+  pub none : (line : ℕ) (cause : ScriptCause) → Stands bytes line cause → ⊥

@@ -7,11 +7,12 @@ use Rattle.num_text.specs.Number.{IsNumber}
 use Rattle.iccma_tasks.specs.Tasks.{Asked, FitsTask, IsTask, task_name}
 use Rattle.edit_rules.specs.declared.edit.Edit.{Edit}
 use Rattle.script_text.specs.declared.script.TheConstants.{MAX_SESSIONS}
-use Rattle.script_text.specs.declared.script.ScriptCommand.{ScriptCommand}
-use Rattle.script_text.specs.declared.script.ScriptCommand.TheVariants.{Edit as change_by, Ask}
-use Rattle.script_text.specs.declared.script.ScriptLine.{ScriptLine}
+use Rattle.script_text.specs.declared.text_line.LineCommand.{LineCommand}
+use Rattle.script_text.specs.declared.text_line.LineCommand.TheVariants.{Ask, Begin, Edit as change_by, End}
+use Rattle.script_text.specs.declared.text_line.TextLine.{TextLine}
 use Rattle.script_text.specs.declared.script.Script.{Script}
 use Rattle.script_text.specs.Changes.{change_name, change_of, edit_numbers}
+use Rattle.script_text.specs.Groups.{FitGroups, after_lines, commands_of, no_groups}
 
 -- the fields are the name of the edit's command and its numbers, with leading zeros or without
 pub record AreEditFields (fields : List (List ℕ)) (edit : Edit) : Type 0 where
@@ -33,9 +34,11 @@ pub record AreAskFields (fields : List (List ℕ)) (asked : Asked) : Type 0 wher
   pub fits : FitsTask asked.task.problem asked.number
 
 -- the fields are those of the command
-abbrev pub AreCommandFields : List (List ℕ) → ScriptCommand → Type 0
+abbrev pub AreCommandFields : List (List ℕ) → LineCommand → Type 0
 AreCommandFields fields (change_by edit) = AreEditFields fields edit
 AreCommandFields fields (Ask asked) = AreAskFields fields asked
+AreCommandFields fields Begin = fields ≡ codes "begin" ∷ []
+AreCommandFields fields End = fields ≡ codes "end" ∷ []
 
 -- the text is the number of a session
 pub record SpellsSession (text : List ℕ) (session : ℕ) : Type 0 where
@@ -44,13 +47,21 @@ pub record SpellsSession (text : List ℕ) (session : ℕ) : Type 0 where
   pub high : session ≤ MAX_SESSIONS
 
 -- the line is a session's number and a command
-pub record IsScriptLine (text : List ℕ) (line : ScriptLine) : Type 0 where
+pub record IsTextLine (text : List ℕ) (line : TextLine) : Type 0 where
   pub session : List ℕ
   pub others : List (List ℕ)
   pub fields : field_texts text ≡ session ∷ others
   pub session_is : SpellsSession session line.session
   pub command_is : AreCommandFields others line.command
 
--- but for skipped lines, the bytes are the lines of the script
-abbrev pub IsScript : List ℕ → Script → Type 0
-IsScript bytes script = AllZip (λ text line. IsScriptLine text.text line) (kept_lines bytes) script.lines
+abbrev pub AreTextLines : List LineText → List TextLine → Type 0
+AreTextLines texts lines = AllZip (λ text line. IsTextLine text.text line) texts lines
+
+-- but for skipped lines, the bytes are lines of which each fits the group of its session, and none is open at the end;
+-- and the script is their commands
+pub record IsScript (bytes : List ℕ) (script : Script) : Type 0 where
+  pub lines : List TextLine
+  pub are_lines : AreTextLines (kept_lines bytes) lines
+  pub fit : FitGroups no_groups lines
+  pub closed : (s : ℕ) → after_lines lines no_groups s ≡ None
+  pub commands : script.lines ≡ commands_of no_groups lines

@@ -1,15 +1,23 @@
 -- How reading goes on from field to field and from line to line.
-use Rattle.std.specs.Prelude.{◌≡◌, ℕ, List, [], ◌∷◌, ◌++◌}
-use Rattle.std.specs.List.{AllZip}
+use Rattle.std.specs.Prelude.{◌≡◌, ◌⊎◌, ℕ, ◌≤◌, List, [], ◌∷◌, ◌++◌, Option, Some, None, length}
 use Rattle.num_text.specs.Cuts.{LineText, field_texts}
+use Rattle.edit_rules.specs.declared.edit.Edit.{Edit}
+use Rattle.edit_rules.specs.declared.edit.TheConstants.{MAX_GROUP}
 use Rattle.script_text.specs.declared.fault.LineStop.{LineStop}
 use Rattle.script_text.specs.declared.fault.LineStop.TheVariants.{Wrong, Memory}
 use Rattle.script_text.specs.declared.fault.ScriptCause.{ScriptCause}
+use Rattle.script_text.specs.declared.fault.ScriptCause.TheVariants.{BadCommand, EmptyGroup, GroupTooLong}
 use Rattle.script_text.specs.declared.fault.ScriptFault.{ScriptFault}
 use Rattle.script_text.specs.declared.fault.ScriptFault.TheVariants.{At, Memory as Refused}
+use Rattle.script_text.specs.declared.open_groups.OpenGroups.{OpenGroups}
 use Rattle.script_text.specs.declared.script.ScriptLine.{ScriptLine}
-use Rattle.script_text.specs.ScriptFaults.{IsFirstCause, StandsOn}
-use Rattle.script_text.specs.ScriptText.{IsScriptLine, SpellsSession}
+use Rattle.script_text.specs.declared.text_line.LineCommand.{LineCommand}
+use Rattle.script_text.specs.declared.text_line.LineCommand.TheVariants.{Ask, Begin, Edit as change_by, End}
+use Rattle.script_text.specs.declared.text_line.TextLine.{TextLine}
+use Rattle.script_text.specs.Groups.{FitGroups, FitsGroup, Groups, after_lines, commands_of, no_groups}
+use Rattle.script_text.specs.ScriptFaults.{IsFirstCause, StandsByGroup, StandsOn}
+use Rattle.script_text.specs.ScriptText.{AreTextLines, IsTextLine, SpellsSession}
+use Rattle.script_text.specs.Sizes.{group_at}
 
 -- where the line is wrong, its cause is one of which P holds
 abbrev pub IfWrong : LineStop → (ScriptCause → Type 0) → Type 0
@@ -23,32 +31,85 @@ pub record TakesSession (before : List (List ℕ)) (session : ℕ) (after : List
   pub session_is : SpellsSession text session
 
 -- the next line says this, and the others are left
-pub record TellsNext (before after : List LineText) (told : ScriptLine) : Type 0 where
+pub record TellsNext (before after : List LineText) (told : TextLine) : Type 0 where
   pub line : LineText
   pub lines_are : before ≡ line ∷ after
-  pub told_is : IsScriptLine line.text told
+  pub told_is : IsTextLine line.text told
+
+-- ---- groups
+
+abbrev pub groups_of : OpenGroups → Groups
+groups_of open_groups s = group_at open_groups.groups.items s
+
+-- how many edits the group has, where one is open
+abbrev pub edit_count : Option (List Edit) → Option ℕ
+edit_count None = None
+edit_count (Some edits) = Some (length edits)
+
+-- a line, by its parts
+abbrev pub line_by : ℕ → LineCommand → TextLine
+line_by session command = record { session = session; command = command }
+
+-- the line may stand where these groups are open
+abbrev pub FitsIn : Groups → TextLine → Type 0
+FitsIn groups line = FitsGroup line.command (groups line.session)
+
+-- the cause is that of a line behind so many edits of a group
+abbrev pub BreaksLimit : LineCommand → ℕ → ScriptCause → Type 0
+BreaksLimit (change_by edit) count cause = (MAX_GROUP ≤ count) × (cause ≡ GroupTooLong)
+BreaksLimit (Ask asked) count cause = ⊥
+BreaksLimit Begin count cause = ⊥
+BreaksLimit End count cause = (count ≡ 0) × (cause ≡ EmptyGroup)
+
+-- the cause is that of a line by the number of edits of its session's group
+pub record BreaksIn (groups : Groups) (line : TextLine) (cause : ScriptCause) : Type 0 where
+  pub edits : List Edit
+  pub opened : groups line.session ≡ Some edits
+  pub breaks : BreaksLimit line.command (length edits) cause
+
+abbrev pub IsMisplacedIn : Groups → List (List ℕ) → Type 0
+IsMisplacedIn groups fields = StandsByGroup groups fields BadCommand
+
+-- the cause is told of a line's fields, where these groups are open
+abbrev pub IsFirstIn : Groups → List (List ℕ) → ScriptCause → Type 0
+IsFirstIn groups fields cause = IsFirstCause (λ c. StandsOn fields c ⊎ StandsByGroup groups fields c) cause
+
+-- ---- lines
 
 -- the next line has this number, and the cause is told of it
-pub record IsNextFault (lines : List LineText) (number : ℕ) (cause : ScriptCause) : Type 0 where
+pub record IsNextFault (groups : Groups) (lines : List LineText) (number : ℕ) (cause : ScriptCause) : Type 0 where
   pub line : LineText
   pub others : List LineText
   pub lines_are : lines ≡ line ∷ others
   pub number_is : number ≡ line.number
-  pub told : IsFirstCause (StandsOn (field_texts line.text)) cause
+  pub told : IsFirstIn groups (field_texts line.text) cause
 
 -- where the fault is that of a line, it is that of the next one
-abbrev pub StopsAt : List LineText → ScriptFault → Type 0
-StopsAt lines (At number cause) = IsNextFault lines number cause
-StopsAt lines Refused = Unit {0}
+abbrev pub StopsAt : Groups → List LineText → ScriptFault → Type 0
+StopsAt groups lines (At number cause) = IsNextFault groups lines number cause
+StopsAt groups lines Refused = Unit {0}
 
--- the first line that is no line of a script has this number, and the cause is told of it
-pub record IsFirstBadLine (lines : List LineText) (number : ℕ) (cause : ScriptCause) : Type 0 where
+-- the lines are these, of which each may stand where it does, and these commands; they leave these groups open
+pub record AreRead (lines : List LineText) (groups : Groups) (script : List ScriptLine) : Type 0 where
+  pub read : List TextLine
+  pub are_lines : AreTextLines lines read
+  pub fit : FitGroups no_groups read
+  pub groups_are : groups ≡ after_lines read no_groups
+  pub commands : script ≡ commands_of no_groups read
+
+-- the lines are some that were read, with what they left, and those that are left to read
+pub record HasRead (lines left : List LineText) (groups : Groups) (script : List ScriptLine) : Type 0 where
   pub before : List LineText
-  pub left : List LineText
   pub lines_are : lines ≡ before ++ left
+  pub are_read : AreRead before groups script
+
+-- the first line that may not stand where it does has this number, and the cause is told of it
+pub record IsFirstBadLine (lines : List LineText) (number : ℕ) (cause : ScriptCause) : Type 0 where
+  pub left : List LineText
+  pub groups : Groups
   pub script : List ScriptLine
-  pub before_are : AllZip (λ text line. IsScriptLine text.text line) before script
-  pub bad : IsNextFault left number cause
+  pub has_read : HasRead lines left groups script
+  pub bad : IsNextFault groups left number cause
 
 -- where the fault is that of a line, it is that of the first bad one
 abbrev pub BreaksAt : List LineText → ScriptFault → Type 0

@@ -11,7 +11,8 @@ use thiserror::Error;
 pub enum ScriptCause {
     /// The first field is no number from 1 to 8.
     BadSession,
-    /// The fields behind it begin with the name of no command, or too many or too few fields follow the name.
+    /// The fields behind it begin with the name of no command, or too many or too few fields follow the name, or `ask`
+    /// or `begin` stands inside a group of the session, or `end` outside one.
     BadCommand,
     /// What is asked is no task's name.
     BadTask,
@@ -19,6 +20,12 @@ pub enum ScriptCause {
     BadNumber,
     /// The task asks about a number that isn't there, or a number is there that it doesn't ask about.
     BadQuery,
+    /// A group is open behind the last line. It is told at the number of lines plus one.
+    OpenGroup,
+    /// A group has an edit more than it may have: it is told at that edit.
+    GroupTooLong,
+    /// A group has no edit: it is told at its end.
+    EmptyGroup,
 }
 
 impl ScriptCause {
@@ -32,6 +39,9 @@ impl ScriptCause {
             ScriptCause::BadTask => "BadTask",
             ScriptCause::BadNumber => "BadNumber",
             ScriptCause::BadQuery => "BadQuery",
+            ScriptCause::OpenGroup => "OpenGroup",
+            ScriptCause::GroupTooLong => "GroupTooLong",
+            ScriptCause::EmptyGroup => "EmptyGroup",
         }
     }
 }

@@ -8,7 +8,7 @@ use Rattle.iccma_tasks.specs.Tasks.{Asked}
 use Rattle.edit_rules.specs.Kinds.{kind_of}
 use Rattle.edit_rules.proofs.ReplayLemmas.{kind_stays}
 use Rattle.edit_history.specs.declared.entry.HistoryEntry.{HistoryEntry}
-use Rattle.edit_history.specs.Entries.{framework_after}
+use Rattle.edit_history.specs.Entries.{edits_of, framework_after}
 use Rattle.edit_history.specs.Hubs.{start_of}
 use Rattle.oracle_face.specs.declared.face.Pending.{Pending}
 use Rattle.oracle_face.specs.Growing.{NoSide}
@@ -71,8 +71,8 @@ ends_so f asked course TooMany says shown in_hand works = record {
   ends = (says.1.0, refl);
   may = (says.0.0, works, says.1.1);
 }
-ends_so f asked course (Done effect) says shown in_hand works = absurd says
-ends_so f asked course (EditRefused fault) says shown in_hand works = absurd says
+ends_so f asked course (Done effects) says shown in_hand works = absurd says
+ends_so f asked course (EditRefused place fault) says shown in_hand works = absurd says
 ends_so f asked course Full says shown in_hand works = absurd says
 
 -- ---- the course of a query
@@ -128,7 +128,7 @@ module _ (f : Framework) (s : ℕ) (asked : Asked) (limit : ℕ) (history : List
 
 -- edits keep the kind
 kinds_after : (f : Framework) (entries : List HistoryEntry) → kind_of (framework_after f entries) ≡ kind_of f
-kinds_after f entries = kind_stays f (map (λ (entry : HistoryEntry). entry.edit) entries)
+kinds_after f entries = kind_stays f (edits_of entries)
 
 -- an answer of the core
 answered_step : (core : Core) (s : ℕ) (f : Framework) (log : OracleLog) (count : ℕ) (asked : Asked) (limit used : ℕ)
@@ -186,12 +186,11 @@ queries_run start s asked limit entries followed old new kept said core is withi
     let numbered : IsNumbered turned.opening = subst IsNumbered (sym stands.opening) stands.numbered in
     -- the axioms of the edits
     let adds = subst (λ g. AddsNeededAfter (framework_after g (take followed turned.history))
-    (drop followed turned.history) is.catches_up.names old is.log) (sym stands.opening)
-    (subst (λ list. AddsNeededAfter (framework_after start (take followed list)) (drop followed list)
+    (edits_of (drop followed turned.history)) is.catches_up.names old is.log) (sym stands.opening)
+    (subst (λ list. AddsNeededAfter (framework_after start (take followed list)) (edits_of (drop followed list))
     is.catches_up.names old is.log) (sym history) is.catches_up.adds) in
     let first = needed_reach turned s followed is.catches_up.names old is.log
-    (reached_none turned s old at) numbered (subst (λ list. followed ≤ length list) (sym history) within)
-    seen adds in
+    (reached_none turned s old at) numbered seen adds in
     -- the steps of the query
     let whole : seen_framework turned s ≡ f =
     ap (λ n. framework_after turned.opening (take n turned.history)) seen
@@ -206,7 +205,7 @@ queries_run start s asked limit entries followed old new kept said core is withi
     (record { each = (tokens_pooled core kept.tokens pooled).each })) in
     -- the answer
     let rest : IsAtRest is.log count =
-    rest_behind (framework_after start (take followed entries)) (drop followed entries) is.catches_up.names
+    rest_behind (framework_after start (take followed entries)) (edits_of (drop followed entries)) is.catches_up.names
     old is.log count stands.rests is.catches_up.adds in
     let last = then.end in
     let done = with_session last s (record (last.sessions s) { answered = length (last.sessions s).log.steps }) in

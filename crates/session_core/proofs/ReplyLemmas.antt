@@ -54,8 +54,8 @@ module _ (f : Framework) (asked : Asked) (log : OracleLog) (pending : Option Pen
   Stops kept said = IsStop (MadeFor f asked) f log kept after (halt_told said)
 
   stop_kept : (said : Body) → Stops pending said → Stops (clause_kept said pending) said
-  stop_kept (Done effect) h = h
-  stop_kept (EditRefused fault) h = h
+  stop_kept (Done effects) h = h
+  stop_kept (EditRefused place fault) h = h
   stop_kept Full h = h
   stop_kept (OfAnswered answer certificate) h = h
   stop_kept (QueryRefused fault) h = h
@@ -65,8 +65,8 @@ module _ (f : Framework) (asked : Asked) (log : OracleLog) (pending : Option Pen
 
 -- it is kept only where a budget was spent
 keeps : (said : Body) (pending : Option Pending) → Keeps said (clause_kept said pending)
-keeps (Done effect) pending = refl
-keeps (EditRefused fault) pending = refl
+keeps (Done effects) pending = refl
+keeps (EditRefused place fault) pending = refl
 keeps Full pending = refl
 keeps (OfAnswered answer certificate) pending = refl
 keeps (QueryRefused fault) pending = refl

@@ -5,9 +5,8 @@ use Rattle.std.proofs.Common.{inr, Option, None, Some}
 use Rattle.std.specs.Prelude.{◌⊎◌, ◌&&◌, Contains, cond, count_by, drop, not, slice_index_or}
 use Rattle.std.proofs.lemmas.Bool.{cases_lt, cond_both, eq-eqb, false≢true}
 use Rattle.std.proofs.lemmas.List.{append_assoc, append-nil, get_or-append-add, get_or_append_left, length-append}
-use Rattle.std.proofs.lemmas.List.{length-drop, length-take-le, map-append, take-append-drop, take-append-le}
+use Rattle.std.proofs.lemmas.List.{length-take-le, take-append-drop, take-append-le}
 use Rattle.std.proofs.lemmas.List.{take_all}
-use Rattle.std.proofs.Math.Seq.{take-add}
 use Rattle.lists.proofs.Counts.{count_by-cons}
 use Rattle.lists.proofs.Images.{image_from}
 use Rattle.plain_lits.specs.Units.{Units}
@@ -21,7 +20,7 @@ use Rattle.edit_rules.specs.Kinds.{kind_of}
 use Rattle.edit_rules.specs.Replay.{replay}
 use Rattle.edit_rules.proofs.ReplayLemmas.{edits_keep, kind_stays}
 use Rattle.edit_history.specs.declared.entry.HistoryEntry.{HistoryEntry}
-use Rattle.edit_history.specs.Entries.{framework_after}
+use Rattle.edit_history.specs.Entries.{edits_of, framework_after}
 use Rattle.oracle_face.specs.declared.entry.Entry.{Entry as PoolEntry}
 use Rattle.oracle_face.specs.declared.entry.EntryOrigin.{EntryOrigin}
 use Rattle.oracle_face.specs.declared.entry.EntryOrigin.TheVariants.{Axiom as OfAxiom, Hints}
@@ -46,7 +45,7 @@ use Rattle.core_machine.specs.Steps.{take_in, taken_by}
 use Rattle.framework_solver.proofs.KindLemmas.{needed_axiom}
 use Rattle.session_core.specs.CoreRuns.{AreOfLog, HasPooled, IsAtRest, IsOfLog, IsQuiet, StandsAt}
 use Rattle.session_core.specs.Following.{AddsNeededAfter, TakesNeededAfter}
-use Rattle.session_core.proofs.FollowingLemmas.{replay_parts}
+use Rattle.session_core.proofs.FollowingLemmas.{edits_joined, part_framework}
 
 -- ---- states of the core
 
@@ -181,7 +180,12 @@ wanted_for : (core : Core) (s : ℕ) (f : Framework) (given : List PoolEntry) (l
     → IsWanted (IsCalledFor core s) log name loop
 wanted_for core s f given log name true is pooled w = w
 wanted_for core s f given log name false is pooled (inl needed) =
-    inl (record { count = (core.sessions s).seen; seen = omega arith; needed = subst (λ g. IsNeeded g name) is needed })
+    let edits = edits_of (take (core.sessions s).seen core.history) in
+    let all : take (length edits) edits ≡ edits = take_all (length edits) edits (omega arith) in
+    inl (record {
+      count = length edits;
+      needed = subst (λ g. IsNeeded g name) (is ∙ ap (replay core.opening) (sym all)) needed;
+    })
 wanted_for core s f given log name false is pooled (inr named) =
     let at = pooled.each named.entry named.there in
     inr (record { index = at.0; entry = named.entry; there = at.1; named = named.named })
@@ -292,39 +296,32 @@ record IsNeededStep (core : Core) (s : ℕ) (name : AxiomName) (a b : OracleLog)
   no_loop : is_loop name ≡ false
   takes : TakesAxiom name clause a b
 
-abbrev edit_in : HistoryEntry → Edit
-edit_in entry = entry.edit
-
-after_more : (f : Framework) (first more : List HistoryEntry)
-    → framework_after (framework_after f first) more ≡ framework_after f (first ++ more)
-after_more f first more =
-    replay_parts f (map edit_in first) (map edit_in more) ∙ ap (replay f) (sym (map-append edit_in first more))
-
 needed_step : (core : Core) (s followed : ℕ) (name : AxiomName) (a b : OracleLog) → IsNumbered core.opening
-    → followed ≤ length core.history → (core.sessions s).seen ≡ length core.history
-    → TakesNeededAfter (framework_after core.opening (take followed core.history)) (drop followed core.history) name a b
+    → (core.sessions s).seen ≡ length core.history
+    → TakesNeededAfter (framework_after core.opening (take followed core.history))
+    (edits_of (drop followed core.history)) name a b
     → IsNeededStep core s name a b
-needed_step core s followed name a b numbered within seen takes =
+needed_step core s followed name a b numbered seen takes =
     let entries = core.history in
-    let count = followed + takes.count in
-    let edits = map edit_in (take count entries) in
-    let f = framework_after core.opening (take count entries) in
-    let same : framework_after (framework_after core.opening (take followed entries))
-    (take takes.count (drop followed entries)) ≡ f =
-    after_more core.opening (take followed entries) (take takes.count (drop followed entries))
-    ∙ ap (framework_after core.opening) (sym (take-add followed takes.count entries)) in
+    let first = edits_of (take followed entries) in
+    let later = edits_of (drop followed entries) in
+    let count = length first + takes.count in
+    let seen_edits = edits_of (take (core.sessions s).seen entries) in
+    let f = replay core.opening (take count seen_edits) in
+    let whole : first ++ later ≡ seen_edits =
+    sym (edits_joined (take followed entries) (drop followed entries))
+    ∙ ap edits_of (take-append-drop followed entries)
+    ∙ ap edits_of (sym (take_all (core.sessions s).seen entries (omega (arith, seen)))) in
+    let same : replay (replay core.opening first) (take takes.count later) ≡ f =
+    part_framework core.opening first later takes.count
+    ∙ ap (λ edits. replay core.opening (take count edits)) whole in
     let needed : IsNeeded f name = subst (λ g. IsNeeded g name) same takes.takes.needed in
-    let few = takes.within in
     record {
       clause = takes.takes.clause;
-      of_kind = same_axioms f core.opening name (kind_stays core.opening edits)
-          (needed_axiom f (edits_keep core.opening edits numbered) name needed);
+      of_kind = same_axioms f core.opening name (kind_stays core.opening (take count seen_edits))
+          (needed_axiom f (edits_keep core.opening (take count seen_edits) numbered) name needed);
       once = takes.takes.once;
-      needed = record {
-        count = count;
-        seen = omega (arith, seen, length-drop followed entries);
-        needed = needed;
-      };
+      needed = record { count = count; needed = needed };
       no_loop = needed_no_loop f name needed;
       takes = takes.takes.takes;
     }
@@ -333,10 +330,11 @@ needed_still : (core end : Core) (s : ℕ) (log : OracleLog) (name : AxiomName) 
     → IsNeededFor core s name → IsNeededFor end s name
 needed_still core end s log name h is = record {
   count = is.count;
-  seen = subst (λ n. is.count ≤ n) (sym h.seen) is.seen;
   needed = subst (λ g. IsNeeded g name)
-      (sym (ap (λ f. framework_after f (take is.count end.history)) h.opening
-      ∙ ap (λ entries. framework_after core.opening (take is.count entries)) h.history)) is.needed;
+      (sym (ap (λ f. replay f (take is.count (edits_of (take (end.sessions s).seen end.history)))) h.opening
+      ∙ (ap (λ n. replay core.opening (take is.count (edits_of (take n end.history)))) h.seen
+      ∙ ap (λ entries. replay core.opening (take is.count (edits_of (take (core.sessions s).seen entries))))
+      h.history))) is.needed;
 }
 
 needed_event : (core end : Core) (s : ℕ) (name : AxiomName) (a b : OracleLog) → IsMoved core end s a
@@ -363,14 +361,14 @@ needed_event core end s name a b h is = record {
 
 -- axioms that come one after the other are a run of the core
 pub needed_reach : (core : Core) (s followed : ℕ) (names : List AxiomName) (a b : OracleLog) → IsReached core s a
-    → IsNumbered core.opening → followed ≤ length core.history → (core.sessions s).seen ≡ length core.history
-    → AddsNeededAfter (framework_after core.opening (take followed core.history)) (drop followed core.history) names a b
-    → IsReached core s b
-needed_reach core s followed [] a b r numbered within seen adds = subst (IsReached core s) (sym adds) r
-needed_reach core s followed (name ∷ names) a b r numbered within seen adds =
-    let is = needed_step core s followed name a adds.0 numbered within seen adds.1 in
+    → IsNumbered core.opening → (core.sessions s).seen ≡ length core.history
+    → AddsNeededAfter (framework_after core.opening (take followed core.history))
+    (edits_of (drop followed core.history)) names a b → IsReached core s b
+needed_reach core s followed [] a b r numbered seen adds = subst (IsReached core s) (sym adds) r
+needed_reach core s followed (name ∷ names) a b r numbered seen adds =
+    let is = needed_step core s followed name a adds.0 numbered seen adds.1 in
     needed_reach core s followed names adds.0 b
-    (reached_more core s a adds.0 r (needed_event core r.end s name a adds.0 r.moved is)) numbered within seen adds.2
+    (reached_more core s a adds.0 r (needed_event core r.end s name a adds.0 r.moved is)) numbered seen adds.2
 
 -- ---- what came since the last answer
 
@@ -518,15 +516,15 @@ rest_more name clause a b answered rest no_loop takes =
           (cases_lt k (length a.steps));
     }
 
-pub rest_behind : (f : Framework) (entries : List HistoryEntry) (names : List AxiomName) (a b : OracleLog)
+pub rest_behind : (f : Framework) (edits : List Edit) (names : List AxiomName) (a b : OracleLog)
     (answered : ℕ)
-    → IsAtRest a answered → AddsNeededAfter f entries names a b → IsAtRest b answered
-rest_behind f entries [] a b answered rest adds = subst (λ log. IsAtRest log answered) (sym adds) rest
-rest_behind f entries (name ∷ names) a b answered rest adds =
+    → IsAtRest a answered → AddsNeededAfter f edits names a b → IsAtRest b answered
+rest_behind f edits [] a b answered rest adds = subst (λ log. IsAtRest log answered) (sym adds) rest
+rest_behind f edits (name ∷ names) a b answered rest adds =
     let takes = adds.1.takes in
-    rest_behind f entries names adds.0 b answered
+    rest_behind f edits names adds.0 b answered
     (rest_more name takes.clause a adds.0 answered rest
-    (needed_no_loop (framework_after f (take adds.1.count entries)) name takes.needed) takes.takes) adds.2
+    (needed_no_loop (replay f (take adds.1.count edits)) name takes.needed) takes.takes) adds.2
 
 sided_step : (f : Framework) (own : ℕ) (given : List PoolEntry) (a b : OracleLog) → OwnStep f own given a b
     → count_by is_side_step a.steps ≡ length a.sides → count_by is_side_step b.steps ≡ length b.sides

@@ -8,7 +8,7 @@ use mathlib.Core.List.{IsPrefix}
 use Rattle.semantics.specs.Frameworks.{Framework}
 use Rattle.edit_history.specs.declared.entry.HistoryEntry.{HistoryEntry}
 use Rattle.edit_history.specs.declared.hub.Fresh.{Fresh}
-use Rattle.edit_history.specs.Entries.{entries_in, framework_after}
+use Rattle.edit_history.specs.Entries.{edits_of, entries_in, framework_after}
 use Rattle.edit_history.specs.Hubs.{IsFresh, start_of}
 use Rattle.oracle_face.specs.Growing.{Grows, Making}
 use Rattle.oracle_face.specs.Logs.{OracleLog}
@@ -47,7 +47,7 @@ pub caught_up : (f : Framework) (old new : Session) (fresh : Fresh)
     → HasFollowed f (seen_by old) old.followed old.engine → IsPrefix (seen_by old) (seen_by new)
     → IsFresh f (seen_by new) old.followed fresh
     → new.engine.framework ≡ framework_after old.engine.framework (entries_in fresh.entries)
-    → CatchesUp old.engine.framework (entries_in fresh.entries) old.engine.log new.engine.log
+    → CatchesUp old.engine.framework (edits_of (entries_in fresh.entries)) old.engine.log new.engine.log
     → new.followed ≡ fresh.front → IsCaughtUp f old new fresh.front
 caught_up f old new fresh is longer tells follows caught count =
     let list = seen_by new in
@@ -60,9 +60,9 @@ caught_up f old new fresh is longer tells follows caught count =
           ∙ (ap (λ g. framework_after g (entries_in fresh.entries)) at
           ∙ (ap (framework_after (framework_after f (take old.followed list))) tells.entries
           ∙ after_parts f old.followed list));
-      catches_up = subst (λ g. CatchesUp g (drop old.followed list) old.engine.log new.engine.log) at
-          (subst (λ entries. CatchesUp old.engine.framework entries old.engine.log new.engine.log) tells.entries
-          caught);
+      catches_up = subst (λ g. CatchesUp g (edits_of (drop old.followed list)) old.engine.log new.engine.log) at
+          (subst (λ entries. CatchesUp old.engine.framework (edits_of entries) old.engine.log new.engine.log)
+          tells.entries caught);
     }
 
 -- ---- what is read off a log

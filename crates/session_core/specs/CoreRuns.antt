@@ -6,7 +6,7 @@ use Rattle.meaning_atoms.specs.declared.axiom.AxiomName.{AxiomName}
 use Rattle.iccma_tasks.specs.Tasks.{Asked}
 use Rattle.edit_history.specs.declared.entry.HistoryEntry.{HistoryEntry}
 use Rattle.edit_history.specs.declared.hub.Hub.{Hub}
-use Rattle.edit_history.specs.Entries.{framework_after}
+use Rattle.edit_history.specs.Entries.{edits_of, framework_after}
 use Rattle.edit_history.specs.Hubs.{start_of}
 use Rattle.oracle_face.specs.declared.face.Pending.{Pending}
 use Rattle.oracle_face.specs.Logs.{OracleLog, LogStep, by_axiom, is_loop, no_step}
@@ -97,7 +97,7 @@ pub record RunsToAnswer (core end : Core) (s : ℕ) (asked : Asked) (limit : ℕ
 pub record IsQueryOn (f : Framework) (s : ℕ) (asked : Asked) (limit : ℕ) (history : List HistoryEntry) (followed : ℕ)
     (old new : OracleLog) (kept : KeptAnswer) (said : Body) : Type 0 where
   pub log : OracleLog
-  pub catches_up : CatchesUp (framework_after f (take followed history)) (drop followed history) old log
+  pub catches_up : CatchesUp (framework_after f (take followed history)) (edits_of (drop followed history)) old log
   pub used : ℕ
   pub replied : IsReplied (framework_after f history) asked limit log new kept.pending used said
   pub steps : IsBySteps (framework_after f history) s (map entry_of kept.tokens) asked log new kept.pending said

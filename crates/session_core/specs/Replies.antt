@@ -1,15 +1,17 @@
 -- What a session's replies say.
-use Rattle.std.specs.Prelude.{◌≡◌, ℕ, ◌+◌, ◌*◌, ◌<◌, ◌≤◌, true, List, length, take, Option, Some, None, Err}
+use Rattle.std.specs.Prelude.{◌≡◌, ℕ, ◌+◌, ◌*◌, ◌<◌, ◌≤◌, Bool, true, List, length, take, Option, Some, None, Err}
+use Rattle.std.specs.Prelude.{if◌then◌else◌}
 use Rattle.plain_lits.specs.declared.halt.Halt.{Halt}
 use Rattle.plain_lits.specs.declared.halt.Halt.TheVariants.{Spent, LogFull as OfLogFull}
 use Rattle.plain_lits.specs.Units.{Units}
 use Rattle.semantics.specs.Frameworks.{Framework}
 use Rattle.iccma_tasks.specs.Tasks.{Asked}
 use Rattle.edit_rules.specs.declared.edit.Edit.{Edit}
-use Rattle.edit_rules.specs.Edits.{edit_outcome}
+use Rattle.edit_rules.specs.declared.effect.EditFault.{EditFault}
 use Rattle.edit_rules.specs.Fitting.{Fits, IsFaultOf}
+use Rattle.edit_rules.specs.Groups.{group_told}
 use Rattle.edit_history.specs.declared.entry.HistoryEntry.{HistoryEntry}
-use Rattle.edit_history.specs.Entries.{framework_after}
+use Rattle.edit_history.specs.Entries.{edit_count, framework_after}
 use Rattle.edit_history.specs.Hubs.{GainsOthers, IsCommitted}
 use Rattle.oracle_face.specs.declared.entry.Entry.{Entry as PoolEntry}
 use Rattle.oracle_face.specs.declared.face.Pending.{Pending}
@@ -31,23 +33,35 @@ use Rattle.session_core.specs.declared.kept.KeptAnswer.{KeptAnswer}
 
 -- ---- edits
 
--- what the reply to a session's edit says, where the history was so before and is so now: the edit was taken on the
+-- the place that a reply tells: the edit's in its group, or 0 for an edit that is written without a group
+abbrev pub place_told : Bool → ℕ → ℕ
+place_told grouped place = if grouped then place else 0
+
+-- the group is refused on the framework, and the reply tells the place of its first edit that is
+pub record IsRefusal (grouped : Bool) (f : Framework) (edits : List Edit) (told : ℕ) (fault : EditFault) : Type 0 where
+  pub place : ℕ
+  pub refused : group_told f edits ≡ Err (place, fault)
+  pub is_told : told ≡ place_told grouped place
+
+-- what the reply to a session's edits says, where the history was so before and is so now: the group was taken on the
 -- framework after all others, and is the last entry; or else only other sessions added to it, and the framework after
--- all of it refuses the edit, or it is full
-abbrev pub EditSays : ℕ → Framework → ℕ → Edit → List HistoryEntry → List HistoryEntry → Body → Type 0
-EditSays limit f session edit before now (Done effect) = IsCommitted limit f session edit before now effect
-EditSays limit f session edit before now (EditRefused fault) =
+-- all of it refuses the group, or it has no room for it
+abbrev pub EditSays : Bool → ℕ → Framework → ℕ → List Edit → List HistoryEntry → List HistoryEntry → Body → Type 0
+EditSays grouped limit f session edits before now (Done effects) =
+    IsCommitted limit f session edits before now effects
+EditSays grouped limit f session edits before now (EditRefused told fault) =
     GainsOthers session before now
-    × (length now < limit)
-    × (edit_outcome (framework_after f now) edit ≡ Err fault)
-EditSays limit f session edit before now Full = GainsOthers session before now × (length now ≡ limit)
-EditSays limit f session edit before now body = ⊥
+    × (edit_count now + length edits ≤ limit)
+    × IsRefusal grouped (framework_after f now) edits told fault
+EditSays grouped limit f session edits before now Full =
+    GainsOthers session before now × (limit < edit_count now + length edits)
+EditSays grouped limit f session edits before now body = ⊥
 
 -- the reply says so, of the whole history
-pub record IsEditReply (limit : ℕ) (f : Framework) (session : ℕ) (edit : Edit) (before now : List HistoryEntry)
-    (reply : Reply) : Type 0 where
+pub record IsEditReply (grouped : Bool) (limit : ℕ) (f : Framework) (session : ℕ) (edits : List Edit)
+    (before now : List HistoryEntry) (reply : Reply) : Type 0 where
   pub front : reply.front ≡ length now
-  pub says : EditSays limit f session edit before now reply.body
+  pub says : EditSays grouped limit f session edits before now reply.body
 
 -- ---- queries
 

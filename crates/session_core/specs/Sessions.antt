@@ -6,7 +6,7 @@ use Rattle.iccma_tasks.specs.Tasks.{Asked}
 use Rattle.turn_lock.specs.Seats.{list_of}
 use Rattle.edit_history.specs.declared.entry.HistoryEntry.{HistoryEntry}
 use Rattle.edit_history.specs.declared.hub.Hub.{Hub}
-use Rattle.edit_history.specs.Entries.{framework_after}
+use Rattle.edit_history.specs.Entries.{edits_of, framework_after}
 use Rattle.edit_history.specs.Hubs.{start_of}
 use Rattle.oracle_face.specs.Logs.{OracleLog}
 use Rattle.clause_pool.specs.declared.pool.Pool.{Pool}
@@ -55,7 +55,7 @@ pub record IsAsked (hub : Hub) (asked : Asked) (limit : ℕ) (old new : Session)
   pub framework : new.engine.framework ≡ framework_after (start_of hub) (seen_by new)
   pub log : OracleLog
   pub catches_up : CatchesUp (framework_after (start_of hub) (take old.followed (seen_by new)))
-      (drop old.followed (seen_by new)) old.engine.log log
+      (edits_of (drop old.followed (seen_by new))) old.engine.log log
   pub used : ℕ
   pub kept : KeptAnswer
   pub replied : IsReplied (framework_after (start_of hub) (seen_by new)) asked limit log new.engine.log kept.pending

@@ -4,7 +4,7 @@ use Rattle.semantics.specs.Frameworks.{Framework}
 use Rattle.iccma_tasks.specs.Tasks.{Asked}
 use Rattle.turn_lock.specs.Seats.{number_of, turns_of}
 use Rattle.edit_history.specs.declared.hub.Hub.{Hub}
-use Rattle.edit_history.specs.Entries.{framework_after}
+use Rattle.edit_history.specs.Entries.{edits_of, framework_after}
 use Rattle.edit_history.specs.Hubs.{GainsOthers, IsSeatAt}
 use Rattle.oracle_face.specs.declared.face.Pending.{Pending}
 use Rattle.oracle_face.specs.Logs.{OracleLog}
@@ -60,7 +60,7 @@ pub record IsCaughtUp (f : Framework) (old new : Session) (front : ℕ) : Type 0
   pub followed : new.followed ≡ length (seen_by new)
   pub framework : new.engine.framework ≡ framework_after f (seen_by new)
   pub catches_up : CatchesUp (framework_after f (take old.followed (seen_by new)))
-      (drop old.followed (seen_by new)) old.engine.log new.engine.log
+      (edits_of (drop old.followed (seen_by new))) old.engine.log new.engine.log
 
 -- the session's engine came to this reply, and what is kept of it is added
 pub record HasTold (asked : Asked) (limit : ℕ) (old new : Session) (said : Body) : Type 0 where

@@ -27,7 +27,7 @@ pub fn shares_are_runs()
     ensures { SharesAreRuns }
 {}
 
-/// An edit is a run of the core: one turn, at which its entry comes where the reply says that it was taken.
+/// A group of edits is a run of the core: one turn, at which its entry comes where the reply says that it was taken.
 pub fn edits_are_runs()
     ensures { EditsAreRuns }
 {}

@@ -1,5 +1,5 @@
 -- The texts of what sessions are told.
-use Rattle.std.specs.Prelude.{ℕ, ◌+◌, List, [], ◌∷◌, ◌++◌, codes, Option, Some, None}
+use Rattle.std.specs.Prelude.{ℕ, ◌+◌, ◌==◌, List, [], ◌∷◌, ◌++◌, codes, length, Option, Some, None, if◌then◌else◌}
 use Rattle.std.specs.List.{flat_map}
 use Rattle.std.specs.Fmt.{decimal}
 use Rattle.iccma_tasks.specs.WrittenText.{text_of}
@@ -7,6 +7,7 @@ use Rattle.certificate_claims.specs.declared.certificate.Certificate.{Certificat
 use Rattle.certificate_text.specs.Written.{certificate_text}
 use Rattle.edit_rules.specs.declared.edit.Edit.{Edit}
 use Rattle.edit_rules.specs.declared.edit.Edit.TheVariants.{RuleAdd}
+use Rattle.edit_rules.specs.declared.effect.Effect.{Effect}
 use Rattle.edit_rules.specs.declared.effect.EditFault.{EditFault}
 use Rattle.edit_rules.specs.declared.effect.EditFault.TheVariants.{
   WrongKind,
@@ -84,19 +85,36 @@ edit_fault_number (NoSuchRule n) = Some n
 edit_fault_number Memory = None
 
 -- a fault's name, and its number where it carries one
+abbrev pub refusal_words : List ℕ → Option ℕ → List ℕ
+refusal_words name None = codes "REFUSED " ++ name
+refusal_words name (Some n) = codes "REFUSED " ++ (name ++ (codes " " ++ decimal n))
+
 abbrev pub refusal_line : List ℕ → Option ℕ → List ℕ
-refusal_line name None = codes "REFUSED " ++ (name ++ codes "\n")
-refusal_line name (Some n) = codes "REFUSED " ++ (name ++ (codes " " ++ (decimal n ++ codes "\n")))
+refusal_line name number = refusal_words name number ++ codes "\n"
+
+-- the place of an edit in a group, counted from 1
+abbrev pub place_words : ℕ → List ℕ
+place_words place = if place == 0 then [] else (codes " edit " ++ decimal place)
+
+abbrev pub edit_refusal_line : ℕ → EditFault → List ℕ
+edit_refusal_line place fault =
+    refusal_words (edit_fault_name fault) (edit_fault_number fault) ++ (place_words place ++ codes "\n")
 
 -- an added rule is told its number
-abbrev pub taken_line : Edit → ℕ → List ℕ
-taken_line (RuleAdd h body) rule = codes "OK rule " ++ (decimal rule ++ codes "\n")
-taken_line edit rule = codes "OK\n"
+abbrev pub rule_words : Edit → ℕ → List ℕ
+rule_words (RuleAdd h body) rule = codes " rule " ++ decimal rule
+rule_words edit rule = []
 
--- what is told of an edit or a query
+abbrev pub rule_told : Effect → List ℕ
+rule_told effect = rule_words effect.edit effect.rule
+
+abbrev pub taken_line : List Effect → List ℕ
+taken_line effects = codes "OK" ++ (flat_map rule_told effects ++ codes "\n")
+
+-- what is told of edits or a query
 abbrev pub body_text : Body → List ℕ
-body_text (Done effect) = taken_line effect.edit effect.rule
-body_text (EditRefused fault) = refusal_line (edit_fault_name fault) (edit_fault_number fault)
+body_text (Done effects) = taken_line effects
+body_text (EditRefused place fault) = edit_refusal_line place fault
 body_text Full = codes "LIMIT HistoryFull\n"
 body_text (Answered answer certificate) = text_of answer
 body_text (QueryRefused fault) = refusal_line (fault_name fault) (fault_number fault)
@@ -126,12 +144,22 @@ abbrev pub edit_text : Edit → List ℕ
 edit_text (RuleAdd head body) = rule_text head body
 edit_text edit = change_name (change_of edit) ++ spaced (edit_numbers edit)
 
--- the session whose entry it is, and the command
-abbrev pub history_line : Change → List ℕ
-history_line change = decimal change.session ++ (codes " " ++ (edit_text change.effect.edit ++ codes "\n"))
+-- the session whose edit it is, and the command
+abbrev pub command_line : ℕ → Edit → List ℕ
+command_line session edit = decimal session ++ (codes " " ++ (edit_text edit ++ codes "\n"))
+
+abbrev pub edit_line : ℕ → Effect → List ℕ
+edit_line session effect = command_line session effect.edit
+
+-- a group of one edit is its line; the lines of every other group stand between two more
+abbrev pub history_lines : Change → List ℕ
+history_lines change =
+    if length change.effects == 1 then flat_map (edit_line change.session) change.effects
+    else (decimal change.session ++ (codes " begin\n" ++ (flat_map (edit_line change.session) change.effects
+    ++ (decimal change.session ++ codes " end\n"))))
 
 abbrev pub history_of : List Change → List ℕ
-history_of changes = codes "history\n" ++ flat_map history_line changes
+history_of changes = codes "history\n" ++ flat_map history_lines changes
 
 -- the sessions from 1 on, then the history
 abbrev pub transcript_of : List (List Reply) → List Change → List ℕ

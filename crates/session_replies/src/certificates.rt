@@ -10,8 +10,8 @@ use lists::{Bytes, Items, Memory};
 use std::alloc::Global;
 
 /// The certificates of all answers, session by session in the order of the replies. Before each one stands a line
-/// `# session S reply K front T`: it shows the answer that reply K of session S gives for the framework after T edits.
-/// Sessions and replies are counted from 1.
+/// `# session S reply K front T`: it shows the answer that reply K of session S gives for the framework after T groups
+/// of edits. Sessions and replies are counted from 1.
 pub fn certificates_text(alloc: Global, sessions: &[Items<Reply>]) -> Result<Bytes, Memory>
     ensures { IfOk result (λ text. text ≡ certificates_of sessions.now) }
 {

@@ -1,20 +1,22 @@
 //! The text of a history.
 
 ghost use Rattle.std.specs.Prelude.{◌≡◌, ◌++◌, IfOk, OnOk};
+ghost use Rattle.std.specs.List.{flat_map};
 ghost use Rattle.std.specs.String.{string_bytes};
 ghost use Rattle.edit_rules.specs.AbaEdits.{in_order};
-ghost use Rattle.session_replies.specs.Replies.{edit_text, history_line, history_of, rule_text, spaced};
+ghost use Rattle.session_replies.specs.Replies.{command_line, edit_line, edit_text, history_lines, history_of};
+ghost use Rattle.session_replies.specs.Replies.{rule_text, spaced};
 
 use edit_history::Change;
-use edit_rules::Edit;
+use edit_rules::{Edit, Effect};
 use lists::{Bytes, Memory};
 use set_lists::NumSet;
 use std::alloc::Global;
 use std::fmt::Write;
 
-/// The text of a history: the line `history`, and a line for each entry in order. It is the number of the session and
+/// The text of a history: the line `history`, and a line for each edit in order. It is the number of the session and
 /// the command that makes the edit, with single blanks and without leading zeros; the body of a rule is in rising
-/// order, each atom once.
+/// order, each atom once. A group of more edits than one stands between the lines `S begin` and `S end`.
 pub fn history_text(alloc: Global, changes: &[Change]) -> Result<Bytes, Memory>
     ensures { IfOk result (λ text. text ≡ history_of changes.now) }
 {
@@ -26,13 +28,43 @@ pub fn history_text(alloc: Global, changes: &[Change]) -> Result<Bytes, Memory>
     Ok(Bytes::from_vec(text.into_bytes()))
 }
 
-/// Adds the line of an entry.
+/// Adds the lines of an entry.
 fn push_change(alloc: Global, text: &mut String, change: &Change) -> Result<(), Memory>
-    ensures { OnOk result (string_bytes text.new ≡ string_bytes text.old ++ history_line change.now) }
+    ensures { OnOk result (string_bytes text.new ≡ string_bytes text.old ++ history_lines change.now) }
 {
     let session = change.session;
+    let effects = change.effects.as_slice();
+    if effects.len() == 1 {
+        return push_edits(alloc, text, session, effects);
+    }
+    write!(text, "{session} begin\n")?;
+    push_edits(alloc, text, session, effects)?;
+    write!(text, "{session} end\n")?;
+    Ok(())
+}
+
+/// Adds the lines of a session's edits.
+fn push_edits(
+    alloc: Global,
+    text: &mut String,
+    session: u32,
+    effects: &[Effect],
+) -> Result<(), Memory>
+    ensures { OnOk result (string_bytes text.new
+        ≡ string_bytes text.old ++ flat_map (edit_line session) effects.now) }
+{
+    for effect in effects {
+        push_line(alloc, text, session, &effect.edit)?;
+    }
+    Ok(())
+}
+
+/// Adds the line of a session's edit.
+fn push_line(alloc: Global, text: &mut String, session: u32, edit: &Edit) -> Result<(), Memory>
+    ensures { OnOk result (string_bytes text.new ≡ string_bytes text.old ++ command_line session edit.now) }
+{
     write!(text, "{session} ")?;
-    push_edit(alloc, text, &change.effect.edit)?;
+    push_edit(alloc, text, edit)?;
     text.push('\n')?;
     Ok(())
 }

@@ -37,14 +37,19 @@ fn comes(alloc: Global, event: &Event) -> Option<Result<(), StepStop>> {
     Some(machine.step(alloc, event))
 }
 
-/// An attack is added; the drop of one that isn't there is a turn too, which adds nothing; no log has a step yet that a
-/// hint could name.
+/// An attack is added; the drop of one that isn't there is a turn too, which adds nothing; no edit is no group; no log
+/// has a step yet that a hint could name.
 #[test]
 fn takes_steps_alone(rt: HostRuntime) -> Result<(), Fail> {
     let alloc = rt.alloc();
     let learns = learns_live(alloc, 1)?;
-    assert!(rt; comes(alloc, &Event::Commit(1, Edit::AttackAdd(3, 1))) == Some(Ok(())));
-    assert!(rt; comes(alloc, &Event::Commit(1, Edit::AttackDrop(3, 1))) == Some(Ok(())));
+    let adds = Items::from_vec(vec![in alloc; Edit::AttackAdd(3, 1)]?);
+    let drops = Items::from_vec(vec![in alloc; Edit::AttackDrop(3, 1)]?);
+    assert!(rt; comes(alloc, &Event::Commit(1, adds)) == Some(Ok(())));
+    assert!(rt; comes(alloc, &Event::Commit(1, drops)) == Some(Ok(())));
+    assert!(rt;
+        comes(alloc, &Event::Commit(1, Items::new(alloc))) == Some(Err(StepStop::NotAStep))
+    );
     assert!(rt; comes(alloc, &learns) == Some(Err(StepStop::NotAStep)));
     Ok(())
 }

@@ -6,9 +6,9 @@ ghost use Rattle.turn_lock.specs.Seats.{number_of};
 ghost use Rattle.edit_history.specs.Hubs.{IsSeatAt};
 
 use dung_notions::AfPlain;
-use edit_history::{Change, CommitFault, Committed, Fresh, History, Hub, Seat};
+use edit_history::{Change, CommitFault, Committed, Fresh, GroupCommitted, History, Hub, Seat};
 use edit_rules::{Edit, EditFault, Framework};
-use lists::Memory;
+use lists::{Items, Memory};
 use std::alloc::Global;
 use std::sync::Wait;
 use std::test::Fail;
@@ -27,8 +27,10 @@ type Ending = Result<u64, CommitFault>;
 fn is_refused_so(fault: CommitFault, wanted: Ending) -> bool {
     match (fault, wanted) {
         (CommitFault::HistoryFull(front), Err(CommitFault::HistoryFull(other))) => front == other,
-        (CommitFault::Edit(fault, front), Err(CommitFault::Edit(other, at))) => fault == other
-            && front == at,
+        (CommitFault::Edit(place, fault, front), Err(CommitFault::Edit(at, other, end))) => place
+            == at
+            && fault == other
+            && front == end,
         _ => false,
     }
 }
@@ -41,10 +43,18 @@ fn ends_so(told: Result<Committed, CommitFault>, wanted: Ending) -> bool {
     }
 }
 
+/// Whether the change is this edit alone.
+fn is_only(change: &Change, edit: &Edit) -> bool {
+    match change.effects.as_slice() {
+        [effect] => effect.edit == *edit,
+        _ => false,
+    }
+}
+
 /// Whether the changes are one attack that the session dropped.
 fn is_dropped(changes: &[Change], session: u32, edit: &Edit) -> bool {
     match changes {
-        [change] => change.session == session && change.effect.edit == *edit,
+        [change] => change.session == session && is_only(change, edit),
         _ => false,
     }
 }
@@ -110,7 +120,7 @@ fn cross<R: Wait>(rt: &R, alloc: Global, hub: &Hub, one: &mut Seat, two: &mut Se
     let unknown = EditFault::UnknownArgument(3);
     empty.is_ok()
         && ends_so(dropped, Ok(1))
-        && ends_so(refused, Err(CommitFault::Edit(unknown, 1)))
+        && ends_so(refused, Err(CommitFault::Edit(1, unknown, 1)))
         && ends_so(taken, Ok(2))
         && sees_drop(fresh, 2)
 }
@@ -135,7 +145,78 @@ fn came_between(rt: HostRuntime) -> Result<(), Fail> {
     assert!(rt; cross_first(&rt, alloc, &hub, seats.as_mut_slice()));
     let history = hub.close(seats);
     assert!(rt; history.entries.len() == 2);
-    assert!(rt; history.entries[0].effect.dropped.as_slice() == [(2, 3)].as_slice());
+    assert!(rt; history.entries[0].effects.as_slice()[0].dropped.as_slice() == [(2, 3)].as_slice());
+    Ok(())
+}
+
+/// How a commit of a group ended: the front, and how many effects it told.
+fn group_ends_so(
+    told: Result<GroupCommitted, CommitFault>,
+    wanted: Ending,
+    effects: usize,
+) -> bool {
+    match told {
+        Ok(done) => matches!(wanted, Ok(front) if front == done.front)
+            && done.effects.as_slice().len() == effects,
+        Err(fault) => is_refused_so(fault, wanted),
+    }
+}
+
+/// One seat: a group is taken, one is refused at its third edit and changes nothing, and one finds no room.
+fn group<R: Wait>(rt: &R, alloc: Global, hub: &Hub, seat: &mut Seat) -> Result<bool, Memory>
+    requires { IsSeatAt hub.now seat.old }
+    ensures { IsSeatAt hub.now seat.new × (number_of seat.new ≡ number_of seat.old) }
+{
+    let taken = vec![in alloc; Edit::AttackDrop(2, 1), Edit::AttackAdd(3, 1)]?;
+    let refused = vec![in alloc;
+        Edit::AttackAdd(2, 1),
+        Edit::AttackDrop(3, 1),
+        Edit::AttackDrop(3, 1),
+    ]?;
+    let many = vec![in alloc;
+        Edit::AttackAdd(2, 1),
+        Edit::AttackDrop(3, 1),
+        Edit::AttackAdd(3, 1),
+        Edit::ArgDrop(3),
+    ]?;
+    let first = hub.commit_group(rt, alloc, seat, Items::from_vec(taken));
+    let second = hub.commit_group(rt, alloc, seat, Items::from_vec(refused));
+    let third = hub.commit_group(rt, alloc, seat, Items::from_vec(many));
+    let last = hub.commit(rt, alloc, seat, Edit::AttackAdd(2, 1));
+    let gone = EditFault::NoSuchAttack;
+    Ok(
+        group_ends_so(first, Ok(1), 2)
+            && group_ends_so(second, Err(CommitFault::Edit(3, gone, 1)), 0)
+            && group_ends_so(third, Err(CommitFault::HistoryFull(1)), 0)
+            && ends_so(last, Ok(2)),
+    )
+}
+
+/// The same with the first of some seats.
+fn group_first<R: Wait>(
+    rt: &R,
+    alloc: Global,
+    hub: &Hub,
+    seats: &mut [Seat],
+) -> Result<bool, Memory>
+    requires { All (IsSeatAt hub.now) seats.old }
+    ensures { All (IsSeatAt hub.now) seats.new × (map number_of seats.new ≡ map number_of seats.old) }
+{
+    match seats.split_first_mut() {
+        Some((first, _rest)) => group(rt, alloc, hub, first),
+        None => Ok(false),
+    }
+}
+
+#[test]
+fn whole_groups(rt: HostRuntime) -> Result<(), Fail> {
+    let alloc = rt.alloc();
+    let (hub, mut seats) = Hub::open(&rt, alloc, worked(alloc)?, 5, 1)?;
+    let ended = group_first(&rt, alloc, &hub, seats.as_mut_slice());
+    let history = hub.close(seats);
+    assert!(rt; ended?);
+    assert!(rt; history.entries.len() == 2);
+    assert!(rt; history.entries[0].effects.as_slice().len() == 2);
     Ok(())
 }
 
@@ -226,7 +307,7 @@ fn entries_of(entries: &[Change], session: u32) -> Option<u32> {
     let mut count = 0u32;
     for change in entries {
         if change.session == session {
-            if change.effect.edit != toggled(session, count) {
+            if !is_only(change, &toggled(session, count)) {
                 return None;
             }
             count = count.saturating_add(1);

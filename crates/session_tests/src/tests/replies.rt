@@ -1,7 +1,7 @@
 //! What a session is told, as it is printed, where no row has it.
 
 use certificate_claims::{Certificate, Refutation, Step};
-use edit_rules::EditFault;
+use edit_rules::{Edit, EditFault, Effect};
 use iccma_tasks::Answer;
 use lists::{Bytes, Items, Memory};
 use session_replies::{Body, Reply, certificates_text, session_text};
@@ -38,9 +38,30 @@ fn certificates(rt: HostRuntime) -> Result<(), Fail> {
 
 #[test]
 fn one_session(rt: HostRuntime) -> Result<(), Fail> {
-    let refused = told(10, Body::EditRefused(EditFault::OutOfRange(0)));
+    let refused = told(10, Body::EditRefused(0, EditFault::OutOfRange(0)));
     let written = session_text(rt.alloc(), 8, &[refused, told(10, Body::TooMany)])?;
     let text = "session 8\nat 10\nREFUSED OutOfRange 0\nat 10\nLIMIT TooMany\n";
+    assert!(rt; written.as_slice() == text.as_bytes());
+    Ok(())
+}
+
+/// The effect of a rule's coming, with its number.
+fn rule_added(alloc: Global, number: u32) -> Effect {
+    let mut effect = Effect::of_edit(alloc, Edit::RuleAdd(1, Items::new(alloc)));
+    effect.rule = number;
+    effect
+}
+
+/// A group's refusal tells the place of the edit, and a group that is taken the number of each rule in order.
+#[test]
+fn groups(rt: HostRuntime) -> Result<(), Fail> {
+    let alloc = rt.alloc();
+    let refused = told(0, Body::EditRefused(2, EditFault::NotFlat(2)));
+    let flat = Effect::of_edit(alloc, Edit::AsmAdd(3, 0));
+    let effects = vec![in alloc; rule_added(alloc, 4), flat, rule_added(alloc, 5)]?;
+    let taken = told(1, Body::Done(Items::from_vec(effects)));
+    let written = session_text(alloc, 1, &[refused, taken])?;
+    let text = "session 1\nat 0\nREFUSED NotFlat 2 edit 2\nat 1\nOK rule 4 rule 5\n";
     assert!(rt; written.as_slice() == text.as_bytes());
     Ok(())
 }

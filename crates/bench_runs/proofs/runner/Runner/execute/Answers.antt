@@ -1,4 +1,5 @@
 use Rattle.std.proofs.Common.{sym, subst}
+use Rattle.edit_history.specs.Entries.{IsGroup}
 use Rattle.edit_history.specs.Hubs.{limit_of, start_of}
 use Rattle.script_text.specs.declared.script.ScriptCommand.TheVariants.{Edit as change_by, Ask}
 use Rattle.session_core.specs.Replies.{IsEditReply}
@@ -12,15 +13,16 @@ pub returns-in_ok-reply-in-Edit-clause-told : goal.returns-in_ok-reply-in-Edit-c
 returns-in_ok-reply-in-Edit-clause-told g c =
     let hub = c.args.hub.now in
     let old = c.args.self.now.session in
-    let new = c.edit.new.self in
+    let new = c.commit.new.self in
     let told = c.in_ok-reply-in-Edit.reply in
-    let edit = c.in_ok-edit-in-Edit.edit in
+    let grouped = c.in-Edit.grouped in
+    let edits = c.as_slice-edits-in-Edit.result.now in
     let said = c.in_ok-reply-in-Edit.ensures in
     subst (λ m. IsTold hub c.args.budget m old new told) (sym c.in-Edit.is)
-    (subst (λ e. IsTold hub c.args.budget (change_by e) old new told) c.in_ok-edit-in-Edit.ensures
-    (told_of_edit hub c.args.budget edit old new told
-    (subst (λ n. IsEditReply (limit_of hub) (start_of hub) n edit (seen_by old) (seen_by new) told) c.requires.number
-    said.ok) said.engine said.followed said.answers))
+    (subst (λ es. IsTold hub c.args.budget (change_by es grouped) old new told) c.as_slice-edits-in-Edit.ensures.edits
+    (told_of_edit hub c.args.budget grouped edits old new told c.as_slice-edits-in-Edit.ensures.size
+    (subst (λ n. IsEditReply grouped (limit_of hub) (start_of hub) n edits (seen_by old) (seen_by new) told)
+    c.requires.number said.ok) said.engine said.followed said.answers))
 
 pub returns-in_ok-reply-in-Ask-clause-told : goal.returns-in_ok-reply-in-Ask-clause-told
 returns-in_ok-reply-in-Ask-clause-told g c =

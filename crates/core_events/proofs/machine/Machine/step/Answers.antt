@@ -1,12 +1,12 @@
-use Rattle.core_events.specs.declared.event.Event.TheVariants.{Answer, Commit, Import, Learn, Refresh, Share}
+use Rattle.core_events.specs.declared.event.Event.TheVariants.{Answer, Import, Learn, Refresh, Share}
 use Rattle.core_events.specs.Machines.{core_of}
-use Rattle.core_events.proofs.EventLemmas.{event_comes, side_comes}
+use Rattle.core_events.proofs.EventLemmas.{commit_comes, event_comes, side_comes}
 use Rattle.core_events.proofs.machine.Machine.step.Goals as goal
 
 pub returns-in-Commit : goal.returns-in-Commit
 returns-in-Commit c =
-    event_comes (core_of c.args.self.now) (core_of c.commit.new.self) c.commit.result c.args.event.now
-    (Commit c.in-Commit.session c.in-Commit.edit) c.in-Commit.is c.commit.ensures
+    commit_comes (core_of c.args.self.now) (core_of c.commit.new.self) c.commit.result c.args.event.now
+    c.in-Commit.session c.in-Commit.edits c.as_slice.result.now c.in-Commit.is c.as_slice.ensures c.commit.ensures
 
 pub returns-in-Refresh : goal.returns-in-Refresh
 returns-in-Refresh c =

@@ -1,5 +1,5 @@
 use Rattle.std.proofs.Common.{◌≡◌, List, refl, rules, subst}
-use Rattle.edit_history.specs.Entries.{entries_in, framework_after}
+use Rattle.edit_history.specs.Entries.{edits_of, entries_in, framework_after}
 use Rattle.edit_history.specs.Hubs.{start_of}
 use Rattle.edit_history.specs.declared.entry.Change.{Change}
 use Rattle.session_core.specs.Following.{CatchesUp}
@@ -25,6 +25,6 @@ returns-clause-ok g c =
     fresh c.requires.followed c.in_ok-entries.ensures.gained.longer c.in_ok-entries.ensures.ok
     (subst (λ (changes : List Change). engine.framework ≡ framework_after old.engine.framework (entries_in changes)) is
     c.in_ok-follow.ensures.framework)
-    (subst (λ (changes : List Change). CatchesUp old.engine.framework (entries_in changes) old.engine.log engine.log) is
-    c.in_ok-follow.ensures.catches_up)
+    (subst (λ (changes : List Change). CatchesUp old.engine.framework (edits_of (entries_in changes)) old.engine.log
+    engine.log) is c.in_ok-follow.ensures.catches_up)
     refl

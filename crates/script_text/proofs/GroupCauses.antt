@@ -1,0 +1,335 @@
+-- Which cause is told of a line, where groups are open.
+use Rattle.std.proofs.Common.{◌≡◌, ℕ, ◌<◌, ◌≤◌, List, [], ◌∷◌, length, get_or, refl, sym, ap, subst, ◌∙◌, ◌⊎◌, inl, inr, arith}
+use Rattle.std.specs.Prelude.{codes, Option, Some, None}
+use Rattle.std.proofs.lemmas.Bool.{cases_lt}
+use Rattle.std.proofs.lemmas.Slice.Zip.{AllZip-long}
+use Rattle.num_text.specs.Cuts.{field_texts}
+use Rattle.num_text.specs.Number.{IsNumber}
+use Rattle.edit_rules.specs.declared.edit.Edit.{Edit}
+use Rattle.edit_rules.specs.declared.edit.TheConstants.{MAX_GROUP}
+use Rattle.iccma_tasks.specs.Tasks.{task_name}
+use Rattle.script_text.specs.declared.fault.LineStop.{LineStop}
+use Rattle.script_text.specs.declared.fault.LineStop.TheVariants.{Wrong, Memory}
+use Rattle.script_text.specs.declared.fault.ScriptCause.{ScriptCause}
+use Rattle.script_text.specs.declared.fault.ScriptCause.TheVariants.{BadSession, BadCommand, BadTask, BadNumber}
+use Rattle.script_text.specs.declared.fault.ScriptCause.TheVariants.{BadQuery, EmptyGroup, GroupTooLong, OpenGroup}
+use Rattle.script_text.specs.declared.text_line.LineCommand.{LineCommand}
+use Rattle.script_text.specs.declared.text_line.LineCommand.TheVariants.{Ask, Begin, Edit as change_by, End}
+use Rattle.script_text.specs.declared.text_line.TextLine.{TextLine}
+use Rattle.script_text.specs.Changes.{change_name, change_of, edit_numbers}
+use Rattle.script_text.specs.Groups.{FitsGroup, Groups, is_open}
+use Rattle.script_text.specs.ScriptFaults.{rank, BeginWithSession, HaveChangeForm, IsFirstCause, IsMisplaced}
+use Rattle.script_text.specs.ScriptFaults.{IsMisplacedName, StandsByGroup, StandsInGroup, StandsOn}
+use Rattle.script_text.specs.ScriptText.{AreCommandFields, AreEditFields, IsTextLine}
+use Rattle.script_text.specs.Steps.{BreaksIn, BreaksLimit, FitsIn, IfWrong, IsFirstIn, IsMisplacedIn, TakesSession}
+use Rattle.script_text.proofs.CommandCauses.{first_same, marks_no_change, others_same}
+use Rattle.script_text.proofs.LineCauses.{begins, edit_takes, line_is_good}
+use Rattle.script_text.proofs.Names.{ask_is_no_change, begin_is_no_ask, begin_is_no_change, begin_is_no_end}
+use Rattle.script_text.proofs.Names.{end_is_no_ask, end_is_no_change}
+
+-- ---- the session of a line, and its command's name
+
+-- fields begin with one session at most
+session_same : (fields : List (List ℕ)) (s t : ℕ) (us vs : List (List ℕ)) → TakesSession fields s us
+    → TakesSession fields t vs → s ≡ t
+session_same fields s t us vs a b =
+    let texts : a.text ≡ b.text = first_same a.text b.text us vs (sym a.fields_are ∙ b.fields_are) in
+    sym (subst (λ text. IsNumber text s) texts a.session_is.number).value ∙ b.session_is.number.value
+
+takes_group : (groups : Groups) (fields : List (List ℕ)) (cause : ScriptCause)
+    → (g : StandsByGroup groups fields cause) → TakesSession fields g.session g.others
+takes_group groups fields cause g =
+    record { text = g.text; fields_are = g.fields_are; session_is = g.session_is }
+
+takes_line : (text : List ℕ) (line : TextLine) → (h : IsTextLine text line)
+    → TakesSession (field_texts text) line.session h.others
+takes_line text line h = record { text = h.session; fields_are = h.fields; session_is = h.session_is }
+
+-- what stands by a group, at the session and the fields that were read
+pub stands_there : (groups : Groups) (fields others : List (List ℕ)) (session : ℕ) (cause : ScriptCause)
+    → TakesSession fields session others → StandsByGroup groups fields cause
+    → StandsInGroup (groups session) others cause
+stands_there groups fields others session cause takes g =
+    let own = takes_group groups fields cause g in
+    let sessions : g.session ≡ session = session_same fields g.session session g.others others own takes in
+    let behind : g.others ≡ others = others_same g.text takes.text g.others others (sym g.fields_are ∙ takes.fields_are) in
+    subst (λ fs. StandsInGroup (groups session) fs cause) behind
+    (subst (λ s. StandsInGroup (groups s) g.others cause) sessions g.stands)
+
+pub stands_by : (groups : Groups) (fields others : List (List ℕ)) (session : ℕ) (cause : ScriptCause)
+    → TakesSession fields session others → StandsInGroup (groups session) others cause
+    → StandsByGroup groups fields cause
+stands_by groups fields others session cause takes stands = record {
+  session = session;
+  text = takes.text;
+  others = others;
+  fields_are = takes.fields_are;
+  session_is = takes.session_is;
+  stands = stands;
+}
+
+-- ---- where a name may stand
+
+pub no_session : (groups : Groups) (fields : List (List ℕ)) → (BeginWithSession fields → ⊥)
+    → IsMisplacedIn groups fields → ⊥
+no_session groups fields none g = none (begins fields g.others g.session (takes_group groups fields BadCommand g))
+
+pub no_name : (groups : Groups) (fields others : List (List ℕ)) (session : ℕ) → TakesSession fields session others
+    → others ≡ [] → IsMisplacedIn groups fields → ⊥
+no_name groups fields others session takes none g =
+    let m = stands_there groups fields others session BadCommand takes g in
+    let long : 0 ≡ length (m.name ∷ m.others) = ap length (sym none ∙ m.fields_are) in
+    absurd (omega (arith, long))
+
+pub name_there : (groups : Groups) (fields others more : List (List ℕ)) (session : ℕ) (name : List ℕ)
+    → TakesSession fields session others → others ≡ name ∷ more → IsMisplacedName (is_open (groups session)) name
+    → IsMisplacedIn groups fields
+name_there groups fields others more session name takes e misplaced =
+    stands_by groups fields others session BadCommand takes
+    (record { name = name; others = more; fields_are = e; misplaced = misplaced })
+
+pub name_placed : (groups : Groups) (fields others more : List (List ℕ)) (session : ℕ) (name : List ℕ)
+    → TakesSession fields session others → others ≡ name ∷ more → (IsMisplacedName (is_open (groups session)) name → ⊥)
+    → IsMisplacedIn groups fields → ⊥
+name_placed groups fields others more session name takes e placed g =
+    let m = stands_there groups fields others session BadCommand takes g in
+    let names : m.name ≡ name = first_same m.name name m.others more (sym m.fields_are ∙ e) in
+    placed (subst (λ n. IsMisplacedName (is_open (groups session)) n) names m.misplaced)
+
+-- ---- ranks
+
+-- causes of fields come before those of a group's length
+of_fields : (fields : List (List ℕ)) (cause : ScriptCause) → StandsOn fields cause → rank cause ≤ 5
+of_fields fields BadSession stands = omega arith
+of_fields fields BadCommand stands = omega arith
+of_fields fields BadTask stands = omega arith
+of_fields fields BadNumber stands = omega arith
+of_fields fields BadQuery stands = omega arith
+of_fields fields OpenGroup stands = absurd stands
+of_fields fields GroupTooLong stands = absurd stands
+of_fields fields EmptyGroup stands = absurd stands
+
+behind_session : (fields : List (List ℕ)) → BeginWithSession fields → (cause : ScriptCause) → StandsOn fields cause
+    → 2 ≤ rank cause
+behind_session fields session BadSession stands = absurd (stands session)
+behind_session fields session BadCommand stands = omega arith
+behind_session fields session BadTask stands = omega arith
+behind_session fields session BadNumber stands = omega arith
+behind_session fields session BadQuery stands = omega arith
+behind_session fields session OpenGroup stands = absurd stands
+behind_session fields session GroupTooLong stands = absurd stands
+behind_session fields session EmptyGroup stands = absurd stands
+
+of_group : (group : Option (List Edit)) (fields : List (List ℕ)) (cause : ScriptCause)
+    → StandsInGroup group fields cause → 2 ≤ rank cause
+of_group group fields BadSession stands = absurd stands
+of_group group fields BadCommand stands = omega arith
+of_group group fields BadTask stands = absurd stands
+of_group group fields BadNumber stands = absurd stands
+of_group group fields BadQuery stands = absurd stands
+of_group group fields OpenGroup stands = absurd stands
+of_group group fields GroupTooLong stands = omega arith
+of_group group fields EmptyGroup stands = omega arith
+
+-- where the name may stand, a group's causes are those of its length
+of_length : (groups : Groups) (fields : List (List ℕ)) → (IsMisplacedIn groups fields → ⊥) → (cause : ScriptCause)
+    → StandsByGroup groups fields cause → 7 ≤ rank cause
+of_length groups fields placed BadSession g = absurd g.stands
+of_length groups fields placed BadCommand g = absurd (placed g)
+of_length groups fields placed BadTask g = absurd g.stands
+of_length groups fields placed BadNumber g = absurd g.stands
+of_length groups fields placed BadQuery g = absurd g.stands
+of_length groups fields placed OpenGroup g = absurd g.stands
+of_length groups fields placed GroupTooLong g = omega arith
+of_length groups fields placed EmptyGroup g = omega arith
+
+-- ---- the cause that is told
+
+pub misplaced_told : (groups : Groups) (fields : List (List ℕ)) → IsMisplacedIn groups fields
+    → IsFirstIn groups fields BadCommand
+misplaced_told groups fields g =
+    let session = begins fields g.others g.session (takes_group groups fields BadCommand g) in
+    record {
+      stands = inr g;
+      first = λ other stands. elim stands [
+        | inl on ↦ behind_session fields session other on
+        | inr by ↦ of_group (groups by.session) by.others other by.stands
+      ];
+    }
+
+field_told : (groups : Groups) (fields : List (List ℕ)) (cause : ScriptCause) → (IsMisplacedIn groups fields → ⊥)
+    → IsFirstCause (StandsOn fields) cause → IsFirstIn groups fields cause
+field_told groups fields cause placed told = record {
+  stands = inl told.stands;
+  first = λ other stands. elim stands [
+    | inl on ↦ told.first other on
+    | inr by ↦
+        let late = of_length groups fields placed other by in
+        let soon = of_fields fields cause told.stands in
+        omega (arith, late, soon)
+  ];
+}
+
+pub halt_in_group : (groups : Groups) (fields : List (List ℕ)) (halt : LineStop) → (IsMisplacedIn groups fields → ⊥)
+    → IfWrong halt (IsFirstCause (StandsOn fields)) → IfWrong halt (IsFirstIn groups fields)
+halt_in_group groups fields (Wrong cause) placed told = field_told groups fields cause placed told
+halt_in_group groups fields Memory placed told = tt
+
+edit_form : (fields : List (List ℕ)) (edit : Edit) → AreEditFields fields edit → HaveChangeForm fields
+edit_form fields edit h = record {
+  change = change_of edit;
+  arguments = h.numbers;
+  fields_are = h.fields_are;
+  takes = edit_takes edit (length h.numbers)
+      (sym (AllZip-long IsNumber h.numbers (edit_numbers edit) h.spelled));
+}
+
+no_edits : (edits : List Edit) → length edits ≡ 0 → edits ≡ []
+no_edits [] e = refl
+no_edits (edit ∷ edits) e = absurd (omega arith)
+
+-- an edit too many, or an end behind no edits
+limit_first : (groups : Groups) (fields others : List (List ℕ)) (session : ℕ) (command : LineCommand)
+    (edits : List Edit) (cause : ScriptCause) → TakesSession fields session others → AreCommandFields others command
+    → (IsMisplacedIn groups fields → ⊥) → ((c : ScriptCause) → StandsOn fields c → ⊥)
+    → groups session ≡ Some edits → BreaksLimit command (length edits) cause → IsFirstIn groups fields cause
+limit_first groups fields others session (change_by edit) edits cause takes are placed good opened breaks =
+    subst (IsFirstIn groups fields) (sym breaks.1) (record {
+      stands = inr (stands_by groups fields others session GroupTooLong takes
+          (subst (λ group. StandsInGroup group others GroupTooLong) (sym opened) (edit_form others edit are, breaks.0)));
+      first = λ other stands. elim stands [
+        | inl on ↦ absurd (good other on)
+        | inr by ↦ of_length groups fields placed other by
+      ];
+    })
+limit_first groups fields others session (Ask asked) edits cause takes are placed good opened breaks = absurd breaks
+limit_first groups fields others session Begin edits cause takes are placed good opened breaks = absurd breaks
+limit_first groups fields others session End edits cause takes are placed good opened breaks =
+    subst (IsFirstIn groups fields) (sym breaks.1) (record {
+      stands = inr (stands_by groups fields others session EmptyGroup takes
+          (are, opened ∙ ap Some (no_edits edits breaks.0)));
+      first = λ other stands. elim stands [
+        | inl on ↦ absurd (good other on)
+        | inr by ↦ at_end other by
+      ];
+    })
+  where
+    at_end : (other : ScriptCause) → StandsByGroup groups fields other → 8 ≤ rank other
+    at_end BadSession by = absurd by.stands
+    at_end BadCommand by = absurd (placed by)
+    at_end BadTask by = absurd by.stands
+    at_end BadNumber by = absurd by.stands
+    at_end BadQuery by = absurd by.stands
+    at_end OpenGroup by = absurd by.stands
+    at_end GroupTooLong by =
+        let form = subst (λ group. StandsInGroup group others GroupTooLong) opened
+        (stands_there groups fields others session GroupTooLong takes by) in
+        absurd (marks_no_change others (inr are) form.0)
+    at_end EmptyGroup by = omega arith
+
+pub limit_told : (groups : Groups) (text : List ℕ) (line : TextLine) (cause : ScriptCause) → IsTextLine text line
+    → (IsMisplacedIn groups (field_texts text) → ⊥) → BreaksIn groups line cause
+    → IsFirstIn groups (field_texts text) cause
+limit_told groups text line cause h placed b =
+    limit_first groups (field_texts text) h.others line.session line.command b.edits cause (takes_line text line h)
+    h.command_is placed (line_is_good text line h) b.opened b.breaks
+
+-- ---- a line that fits
+
+-- a group that is open is told by its edits
+fits_at : (command : LineCommand) (group : Option (List Edit)) (fields : List (List ℕ))
+    → AreCommandFields fields command → (IsMisplaced group fields → ⊥)
+    → ((edits : List Edit) (cause : ScriptCause) → group ≡ Some edits → BreaksLimit command (length edits) cause → ⊥)
+    → FitsGroup command group
+fits_at (change_by edit) None fields are placed free = tt
+fits_at (change_by edit) (Some edits) fields are placed free = elim (cases_lt (length edits) MAX_GROUP) [
+  | inl room ↦ room
+  | inr full ↦ absurd (free edits GroupTooLong refl (full, refl))
+]
+fits_at (Ask asked) None fields are placed free = tt
+fits_at (Ask asked) (Some edits) fields are placed free = placed (record {
+  name = codes "ask";
+  others = task_name asked.task ∷ are.numbers;
+  fields_are = are.fields_are;
+  misplaced = inl refl;
+})
+fits_at Begin None fields are placed free = tt
+fits_at Begin (Some edits) fields are placed free =
+    placed (record { name = codes "begin"; others = []; fields_are = are; misplaced = inr refl })
+fits_at End None fields are placed free =
+    placed (record { name = codes "end"; others = []; fields_are = are; misplaced = refl })
+fits_at End (Some edits) fields are placed free = elim (cases_lt 0 (length edits)) [
+  | inl some ↦ some
+  | inr none ↦ absurd (free edits EmptyGroup refl (omega arith, refl))
+]
+
+pub line_fits : (groups : Groups) (text : List ℕ) (line : TextLine) → IsTextLine text line
+    → (IsMisplacedIn groups (field_texts text) → ⊥) → ((cause : ScriptCause) → BreaksIn groups line cause → ⊥)
+    → FitsIn groups line
+line_fits groups text line h placed free =
+    fits_at line.command (groups line.session) h.others h.command_is
+    (λ m. placed (stands_by groups (field_texts text) h.others line.session BadCommand (takes_line text line h) m))
+    (λ edits cause opened breaks. free cause (record { edits = edits; opened = opened; breaks = breaks }))
+
+-- such a line has no cause by a group
+misplaced_name : (command : LineCommand) (group : Option (List Edit)) (fields : List (List ℕ)) (name : List ℕ)
+    (more : List (List ℕ)) → AreCommandFields fields command → FitsGroup command group → fields ≡ name ∷ more
+    → IsMisplacedName (is_open group) name → ⊥
+misplaced_name (change_by edit) None fields name more are fits e is = end_is_no_change (change_of edit)
+    (first_same (change_name (change_of edit)) name are.numbers more (sym are.fields_are ∙ e) ∙ is)
+misplaced_name (change_by edit) (Some edits) fields name more are fits e (inl is) = ask_is_no_change (change_of edit)
+    (first_same (change_name (change_of edit)) name are.numbers more (sym are.fields_are ∙ e) ∙ is)
+misplaced_name (change_by edit) (Some edits) fields name more are fits e (inr is) = begin_is_no_change (change_of edit)
+    (first_same (change_name (change_of edit)) name are.numbers more (sym are.fields_are ∙ e) ∙ is)
+misplaced_name (Ask asked) None fields name more are fits e is = end_is_no_ask
+    (first_same (codes "ask") name (task_name asked.task ∷ are.numbers) more (sym are.fields_are ∙ e) ∙ is)
+misplaced_name (Ask asked) (Some edits) fields name more are fits e is = fits
+misplaced_name Begin None fields name more are fits e is = begin_is_no_end
+    (first_same (codes "begin") name [] more (sym are ∙ e) ∙ is)
+misplaced_name Begin (Some edits) fields name more are fits e is = fits
+misplaced_name End None fields name more are fits e is = fits
+misplaced_name End (Some edits) fields name more are fits e (inl is) = end_is_no_ask
+    (sym (first_same (codes "end") name [] more (sym are ∙ e) ∙ is))
+misplaced_name End (Some edits) fields name more are fits e (inr is) = begin_is_no_end
+    (sym (first_same (codes "end") name [] more (sym are ∙ e) ∙ is))
+
+too_many : (command : LineCommand) (group : Option (List Edit)) (fields : List (List ℕ))
+    → AreCommandFields fields command → FitsGroup command group → StandsInGroup group fields GroupTooLong → ⊥
+too_many command None fields are fits many = many
+too_many (change_by edit) (Some edits) fields are fits many = absurd (omega (arith, fits, many.1))
+too_many (Ask asked) (Some edits) fields are fits many = fits
+too_many Begin (Some edits) fields are fits many = fits
+too_many End (Some edits) fields are fits many = marks_no_change fields (inr are) many.0
+
+-- the number of edits, and 1 where no group is open
+abbrev count_of : Option (List Edit) → ℕ
+count_of None = 1
+count_of (Some edits) = length edits
+
+too_few : (command : LineCommand) (group : Option (List Edit)) (fields : List (List ℕ))
+    → AreCommandFields fields command → FitsGroup command group → StandsInGroup group fields EmptyGroup → ⊥
+too_few command None fields are fits few = let count : 1 ≡ 0 = ap count_of few.1 in absurd (omega arith)
+too_few (change_by edit) (Some edits) fields are fits few = marks_no_change fields (inr few.0) (edit_form fields edit are)
+too_few (Ask asked) (Some edits) fields are fits few = fits
+too_few Begin (Some edits) fields are fits few = fits
+too_few End (Some edits) fields are fits few =
+    let count : length edits ≡ 0 = ap count_of few.1 in absurd (omega (arith, fits))
+
+good_at : (command : LineCommand) (group : Option (List Edit)) (fields : List (List ℕ))
+    → AreCommandFields fields command → FitsGroup command group → (cause : ScriptCause)
+    → StandsInGroup group fields cause → ⊥
+good_at command group fields are fits BadSession stands = stands
+good_at command group fields are fits BadCommand m =
+    misplaced_name command group fields m.name m.others are fits m.fields_are m.misplaced
+good_at command group fields are fits BadTask stands = stands
+good_at command group fields are fits BadNumber stands = stands
+good_at command group fields are fits BadQuery stands = stands
+good_at command group fields are fits OpenGroup stands = stands
+good_at command group fields are fits GroupTooLong stands = too_many command group fields are fits stands
+good_at command group fields are fits EmptyGroup stands = too_few command group fields are fits stands
+
+pub fitting_is_good : (groups : Groups) (text : List ℕ) (line : TextLine) → IsTextLine text line → FitsIn groups line
+    → (cause : ScriptCause) → StandsByGroup groups (field_texts text) cause → ⊥
+fitting_is_good groups text line h fits cause g =
+    good_at line.command (groups line.session) h.others h.command_is fits cause
+    (stands_there groups (field_texts text) h.others line.session cause (takes_line text line h) g)
