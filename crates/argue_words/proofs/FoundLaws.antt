@@ -52,7 +52,9 @@ solve_known (Some task) (Some file) number budget certificate a b is = cc
 
 -- a query whose task and file have values is known
 pub query_known : (name : Option CommandName) (found : Text → Option Text) (c : Command)
-    → request_of c ≡ asked name found → (name ≡ None → IsSome (found (codes "task")) × IsSome (found (codes "file"))) → c ≡ Unknown → name ≡ None → ⊥
+    → request_of c ≡ asked name found
+    → (name ≡ None → IsSome (found (codes "task")) × IsSome (found (codes "file")))
+    → c ≡ Unknown → name ≡ None → ⊥
 query_known name found c asks given is none =
     solve_known _ _ _ _ _ (given none).0 (given none).1
     (sym (ap request_of is) ∙ (asks ∙ ap (λ n. asked n found) none))

@@ -373,7 +373,8 @@ asked (Some command.Names) value = names_request (value (codes "task")) (value (
 asked (Some command.Af) value = af_request (value (codes "kind")) (value (codes "file"))
 asked (Some command.Lrat) value = lrat_request (value (codes "cnf")) (value (codes "lrat"))
 asked (Some command.Export) value = export_request (value (codes "task")) (value (codes "number"))
-    (value (codes "file")) (value (codes "answer")) (value (codes "certificate")) (value (codes "refutation")) (value (codes "output"))
+    (value (codes "file")) (value (codes "answer")) (value (codes "certificate")) (value (codes "refutation"))
+    (value (codes "output"))
 
 -- what a command's words ask for, by whether clap takes them
 abbrev pub asked_if : Option CommandName → List Text → Bool → Request

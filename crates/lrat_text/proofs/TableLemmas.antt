@@ -43,7 +43,8 @@ pub packed_row : (old new : List (List Lit)) (row packed clause : List Lit) → 
 packed_row old new row packed clause e same there = e ∙ ap (λ x. old ++ x ∷ []) (same ∙ there)
 
 pub plain_more : (vars : ℕ) (clauses new : List (List Lit)) (truths : List Lit) (room : ℕ) (clause : List Lit)
-    → IsPlain vars clauses truths room → IsBelow vars clause → new ≡ clauses ++ clause ∷ [] → IsPlain vars new truths room
+    → IsPlain vars clauses truths room → IsBelow vars clause → new ≡ clauses ++ clause ∷ []
+    → IsPlain vars new truths room
 plain_more vars clauses new truths room clause h below more = rw more (record {
   few = h.few;
   wide = h.wide;

@@ -12,8 +12,8 @@ use plain_lits::{Lit, PackedLit, Rows, StepId, Trail};
 use std::alloc::Global;
 use std::marker::Model;
 
-/// Clauses, and room for each variable up to a number, whether it occurs or not. A step costs the literals of its clause
-/// and of those that its hints name.
+/// Clauses, and room for each variable up to a number, whether it occurs or not. A step costs the literals of its
+/// clause and of those that its hints name.
 pub(crate) struct Plain {
     vars: u32,
     rows: Rows<PackedLit>,

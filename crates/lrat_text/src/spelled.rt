@@ -13,8 +13,8 @@ use plain_lits::{Lit, PackedLit, Rows, StepId};
 use std::alloc::Global;
 use std::marker::Model;
 
-/// Clauses over atoms that stand for variables. A variable gets room where it first occurs, so that they take the memory
-/// of their literals, however many variables there are.
+/// Clauses over atoms that stand for variables. A variable gets room where it first occurs, so that they take the
+/// memory of their literals, however many variables there are.
 pub(crate) struct Spelled {
     vars: u32,
     bench: Bench,
