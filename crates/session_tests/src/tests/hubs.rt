@@ -51,6 +51,14 @@ fn is_only(change: &Change, edit: &Edit) -> bool {
     }
 }
 
+/// Whether the change is one edit, with which this attack alone went.
+fn takes_away(change: &Change, attack: (u32, u32)) -> bool {
+    match change.effects.as_slice() {
+        [effect] => effect.dropped.as_slice() == [attack].as_slice(),
+        _ => false,
+    }
+}
+
 /// Whether the changes are one attack that the session dropped.
 fn is_dropped(changes: &[Change], session: u32, edit: &Edit) -> bool {
     match changes {
@@ -145,7 +153,7 @@ fn came_between(rt: HostRuntime) -> Result<(), Fail> {
     assert!(rt; cross_first(&rt, alloc, &hub, seats.as_mut_slice()));
     let history = hub.close(seats);
     assert!(rt; history.entries.len() == 2);
-    assert!(rt; history.entries[0].effects.as_slice()[0].dropped.as_slice() == [(2, 3)].as_slice());
+    assert!(rt; takes_away(&history.entries[0], (2, 3)));
     Ok(())
 }
 
