@@ -308,12 +308,13 @@ count_of (Some edits) = length edits
 
 too_few : (command : LineCommand) (group : Option (List Edit)) (fields : List (List ℕ))
     → AreCommandFields fields command → FitsGroup command group → StandsInGroup group fields EmptyGroup → ⊥
-too_few command None fields are fits few = let count : 1 ≡ 0 = ap count_of few.1 in absurd (omega arith)
+too_few command None fields are fits few =
+    let count : 1 ≡ 0 = ap count_of few.1 in absurd (omega (arith, count))
 too_few (change_by edit) (Some edits) fields are fits few = marks_no_change fields (inr few.0) (edit_form fields edit are)
 too_few (Ask asked) (Some edits) fields are fits few = fits
 too_few Begin (Some edits) fields are fits few = fits
 too_few End (Some edits) fields are fits few =
-    let count : length edits ≡ 0 = ap count_of few.1 in absurd (omega (arith, fits))
+    let count : length edits ≡ 0 = ap count_of few.1 in absurd (omega (arith, fits, count))
 
 good_at : (command : LineCommand) (group : Option (List Edit)) (fields : List (List ℕ))
     → AreCommandFields fields command → FitsGroup command group → (cause : ScriptCause)
