@@ -1,6 +1,6 @@
 -- The fields of a query.
-use Rattle.std.proofs.Common.{◌≡◌, ℕ, List, [], ◌∷◌, Bool, true, false, refl, sym, ap, subst, ◌∙◌}
-use Rattle.std.specs.Prelude.{Option, codes, map}
+use Rattle.std.proofs.Common.{◌≡◌, ℕ, List, ◌∷◌, true, false, sym, ap, subst}
+use Rattle.std.specs.Prelude.{Option, codes}
 use Rattle.std.specs.List.{AllZip}
 use Rattle.num_text.specs.Number.{IsNumber}
 use Rattle.iccma_tasks.specs.declared.task.Task.{Task}

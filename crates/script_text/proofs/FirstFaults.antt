@@ -1,5 +1,6 @@
 -- From the first bad line, or the group that is left open, to the first fault of the text; a script has no fault.
-use Rattle.std.proofs.Common.{◌≡◌, ℕ, zero, suc, ◌+◌, ◌<◌, ◌≤◌, List, [], ◌∷◌, ◌++◌, length, get_or, refl, sym, ap, subst, ◌∙◌, ◌⊎◌, inl, inr, arith}
+use Rattle.std.proofs.Common.{◌≡◌, ℕ, ◌+◌, ◌<◌, ◌≤◌, not, List, [], ◌∷◌, ◌++◌, length, get_or}
+use Rattle.std.proofs.Common.{refl, sym, ap, subst, ◌∙◌, ◌⊎◌, inl, inr, arith}
 use Rattle.std.specs.Prelude.{All, AllPairs, Option, Some, None}
 use Rattle.std.proofs.lemmas.List.{length-append}
 use Rattle.std.proofs.lemmas.List.Elements.{All-filter}
@@ -16,8 +17,8 @@ use Rattle.script_text.specs.declared.fault.ScriptFault.TheVariants.{At, Memory}
 use Rattle.script_text.specs.declared.script.Script.{Script}
 use Rattle.script_text.specs.declared.script.ScriptLine.{ScriptLine}
 use Rattle.script_text.specs.declared.text_line.TextLine.{TextLine}
-use Rattle.script_text.specs.Groups.{FitGroups, Groups, after_line, after_lines, commands_of, no_groups}
-use Rattle.script_text.specs.ScriptFaults.{rank, IsFaultless, IsFirstFault, IsLeftOpen, IsToldOf, Stands, StandsAt}
+use Rattle.script_text.specs.Groups.{FitGroups, Groups, after_line, after_lines, no_groups}
+use Rattle.script_text.specs.ScriptFaults.{rank, IsFaultless, IsFirstFault, IsToldOf, StandsAt}
 use Rattle.script_text.specs.ScriptFaults.{StandsBehind, StandsByGroup, StandsOn}
 use Rattle.script_text.specs.ScriptText.{AreTextLines, IsScript, IsTextLine}
 use Rattle.script_text.specs.Steps.{AreRead, BreaksAt, FitsIn, IsFirstBadLine}

@@ -1,5 +1,5 @@
 -- Which cause is told of a line, where groups are open.
-use Rattle.std.proofs.Common.{◌≡◌, ℕ, ◌<◌, ◌≤◌, List, [], ◌∷◌, length, get_or, refl, sym, ap, subst, ◌∙◌, ◌⊎◌, inl, inr, arith}
+use Rattle.std.proofs.Common.{◌≡◌, ℕ, ◌≤◌, List, [], ◌∷◌, length, refl, sym, ap, subst, ◌∙◌, inl, inr, arith}
 use Rattle.std.specs.Prelude.{codes, Option, Some, None}
 use Rattle.std.proofs.lemmas.Bool.{cases_lt}
 use Rattle.std.proofs.lemmas.Slice.Zip.{AllZip-long}
@@ -24,7 +24,7 @@ use Rattle.script_text.specs.ScriptText.{AreCommandFields, AreEditFields, IsText
 use Rattle.script_text.specs.Steps.{BreaksIn, BreaksLimit, FitsIn, IfWrong, IsFirstIn, IsMisplacedIn, TakesSession}
 use Rattle.script_text.proofs.CommandCauses.{first_same, marks_no_change, others_same}
 use Rattle.script_text.proofs.LineCauses.{begins, edit_takes, line_is_good}
-use Rattle.script_text.proofs.Names.{ask_is_no_change, begin_is_no_ask, begin_is_no_change, begin_is_no_end}
+use Rattle.script_text.proofs.Names.{ask_is_no_change, begin_is_no_change, begin_is_no_end}
 use Rattle.script_text.proofs.Names.{end_is_no_ask, end_is_no_change}
 
 -- ---- the session of a line, and its command's name
@@ -308,12 +308,13 @@ count_of (Some edits) = length edits
 
 too_few : (command : LineCommand) (group : Option (List Edit)) (fields : List (List ℕ))
     → AreCommandFields fields command → FitsGroup command group → StandsInGroup group fields EmptyGroup → ⊥
-too_few command None fields are fits few = let count : 1 ≡ 0 = ap count_of few.1 in absurd (omega arith)
+too_few command None fields are fits few =
+    let count : 1 ≡ 0 = ap count_of few.1 in absurd (omega (arith, count))
 too_few (change_by edit) (Some edits) fields are fits few = marks_no_change fields (inr few.0) (edit_form fields edit are)
 too_few (Ask asked) (Some edits) fields are fits few = fits
 too_few Begin (Some edits) fields are fits few = fits
 too_few End (Some edits) fields are fits few =
-    let count : length edits ≡ 0 = ap count_of few.1 in absurd (omega (arith, fits))
+    let count : length edits ≡ 0 = ap count_of few.1 in absurd (omega (arith, fits, count))
 
 good_at : (command : LineCommand) (group : Option (List Edit)) (fields : List (List ℕ))
     → AreCommandFields fields command → FitsGroup command group → (cause : ScriptCause)

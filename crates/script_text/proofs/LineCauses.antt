@@ -1,7 +1,5 @@
 -- Which cause is told of a line.
-use Rattle.std.proofs.Common.{◌≡◌, ℕ, ◌≤◌, List, [], ◌∷◌, length, refl, sym, ap, subst, ◌∙◌, arith, inl, inr}
-use Rattle.std.specs.Prelude.{codes}
-use Rattle.std.specs.List.{AllZip}
+use Rattle.std.proofs.Common.{◌≡◌, ℕ, ◌≤◌, List, length, refl, sym, ap, subst, arith, inl, inr}
 use Rattle.std.proofs.lemmas.Slice.Zip.{AllZip-long}
 use Rattle.num_text.specs.Cuts.{field_texts}
 use Rattle.num_text.specs.Number.{IsNumber}
@@ -18,9 +16,9 @@ use Rattle.script_text.specs.declared.fault.ScriptCause.TheVariants.{BadQuery, E
 use Rattle.script_text.specs.declared.text_line.LineCommand.{LineCommand}
 use Rattle.script_text.specs.declared.text_line.LineCommand.TheVariants.{Ask, Begin, Edit as change_by, End}
 use Rattle.script_text.specs.declared.text_line.TextLine.{TextLine}
-use Rattle.script_text.specs.Changes.{Takes, change_name, change_of, edit_numbers}
+use Rattle.script_text.specs.Changes.{Takes, change_of, edit_numbers}
 use Rattle.script_text.specs.ScriptFaults.{rank, BeginWithSession, IsFirstCause, StandsOn, StandsOnCommand}
-use Rattle.script_text.specs.ScriptText.{AreAskFields, AreCommandFields, AreEditFields, IsTextLine, SpellsSession}
+use Rattle.script_text.specs.ScriptText.{AreAskFields, AreCommandFields, AreEditFields, IsTextLine}
 use Rattle.script_text.specs.Steps.{IfWrong, TakesSession}
 use Rattle.script_text.proofs.CommandCauses.{ask_is_good, change_is_good, mark_is_good}
 

@@ -1,5 +1,5 @@
 -- The lines that were read, and those that are left.
-use Rattle.std.proofs.Common.{◌≡◌, ℕ, List, [], ◌∷◌, ◌++◌, refl, sym, ap, subst, ◌∙◌}
+use Rattle.std.proofs.Common.{◌≡◌, List, [], ◌∷◌, ◌++◌, refl, sym, ap, subst, ◌∙◌}
 use Rattle.std.proofs.lemmas.List.{append_assoc, append-nil}
 use Rattle.std.proofs.lemmas.Slice.Zip.{all_zipped_more}
 use Rattle.num_text.specs.Cuts.{LineText}
@@ -9,7 +9,7 @@ use Rattle.script_text.specs.declared.script.ScriptLine.{ScriptLine}
 use Rattle.script_text.specs.declared.text_line.TextLine.{TextLine}
 use Rattle.script_text.specs.Groups.{FitGroups, Groups, after_line, after_lines, commands_of, no_groups, told_at}
 use Rattle.script_text.specs.ScriptText.{IsTextLine}
-use Rattle.script_text.specs.Steps.{AreRead, BreaksAt, FitsIn, HasRead, IsNextFault, StopsAt, TellsNext}
+use Rattle.script_text.specs.Steps.{AreRead, BreaksAt, FitsIn, HasRead, StopsAt, TellsNext}
 
 -- ---- a line more
 

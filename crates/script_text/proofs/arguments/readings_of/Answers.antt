@@ -1,4 +1,4 @@
-use Rattle.std.proofs.Common.{sym, subst, rules}
+use Rattle.std.proofs.Common.{sym, subst}
 use Rattle.std.specs.Prelude.{map}
 use Rattle.script_text.proofs.ReadNumbers.{HaveRead, read_more, taken_texts}
 use Rattle.script_text.proofs.arguments.readings_of.Goals as goal

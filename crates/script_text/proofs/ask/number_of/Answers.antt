@@ -1,4 +1,4 @@
-use Rattle.std.proofs.Common.{◌≡◌, length, [], refl, sym, rules, arith}
+use Rattle.std.proofs.Common.{refl, rules}
 use Rattle.script_text.proofs.ReadNumbers.{no_reading, none_spelled, one_reading, nothing_left}
 use Rattle.script_text.proofs.ask.number_of.Goals as goal
 

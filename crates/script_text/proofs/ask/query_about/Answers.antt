@@ -1,4 +1,4 @@
-use Rattle.std.proofs.Common.{◌≡◌, length, refl, sym, subst, rules, arith}
+use Rattle.std.proofs.Common.{refl, sym, subst, rules, arith}
 use Rattle.std.proofs.lemmas.Slice.Zip.{AllZip-long}
 use Rattle.num_text.specs.Numerals.{IsReadNumber}
 use Rattle.std.specs.Prelude.{codes, ◌∷◌}

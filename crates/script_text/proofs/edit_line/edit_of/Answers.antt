@@ -1,7 +1,4 @@
-use Rattle.std.proofs.Common.{◌≡◌, length, map, refl, sym, subst, ◌∙◌, rules, arith}
-use Rattle.std.proofs.lemmas.Slice.Zip.{AllZip-long}
-use Rattle.num_text.specs.Numerals.{IsReadNumber}
-use Rattle.script_text.specs.Changes.{Takes}
+use Rattle.std.proofs.Common.{map, refl, ◌∙◌, rules}
 use Rattle.script_text.proofs.CommandCauses.{bad_change, bad_change_number}
 use Rattle.script_text.proofs.EditLines.{edit_by, never_true, reading_takes, takes_reading}
 use Rattle.script_text.proofs.ReadNumbers.{all_spelled, none_spelled}

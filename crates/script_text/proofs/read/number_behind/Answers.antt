@@ -1,11 +1,8 @@
 use Rattle.std.proofs.Common.{ap, arith, length}
 use Rattle.num_text.proofs.KeptLines.{length-lines_of-le}
-use Rattle.script_text.proofs.FirstFaults.{breaks_told}
-use Rattle.script_text.proofs.ReadLines.{read_next}
-use Rattle.script_text.proofs.SlotLemmas.{edit_joins}
 use Rattle.script_text.proofs.read.number_behind.Goals as goal
 
 pub overflow_add-number : goal.overflow_add-number
 overflow_add-number c =
     let steps = ap length c.in-Some.ensures.steps in
-    omega (arith, steps, c.loop-line.invariant, length-lines_of-le c.args.bytes.now, c.type_inv.bytes)
+    omega (arith, steps, c.loop-line.invariant, length-lines_of-le c.args.bytes.now)

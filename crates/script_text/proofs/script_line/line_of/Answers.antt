@@ -1,4 +1,4 @@
-use Rattle.std.proofs.Common.{map, subst, ap, ◌∙◌, sym, rules}
+use Rattle.std.proofs.Common.{map, subst, rules}
 use Rattle.num_text.specs.Cuts.{field_texts}
 use Rattle.script_text.specs.Steps.{TakesSession}
 use Rattle.script_text.proofs.LineCauses.{halt_told}
