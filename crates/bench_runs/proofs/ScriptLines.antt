@@ -141,18 +141,22 @@ line_edits n seed line c =
     let found = listed_for (lines_for n seed) (range_with_len 1 (asked_about n)) line c in
     let at = number_in (asked_about n) found.0 found.1 in
     let a = found.0 in
-    each_line (λ l. IfEdit n seed l l.command) (first n seed a) a line
-    (record {
-      edit = AttackDrop (first n seed a) a;
-      edits_are = refl;
-      is = record { about = a; low = at.0; high = at.1; session_is = refl; edit_is = inl refl };
-    }, refl)
-    tt
-    (record {
-      edit = AttackAdd (first n seed a) a;
-      edits_are = refl;
-      is = record { about = a; low = at.0; high = at.1; session_is = refl; edit_is = inr refl };
-    }, refl)
+    each_line (λ l. IfEdit n seed l l.command) (first n seed a) a line (
+      record {
+        edit = AttackDrop (first n seed a) a;
+        edits_are = refl;
+        is = record { about = a; low = at.0; high = at.1; session_is = refl; edit_is = inl refl };
+      },
+      refl,
+    )
+    tt (
+      record {
+        edit = AttackAdd (first n seed a) a;
+        edits_are = refl;
+        is = record { about = a; low = at.0; high = at.1; session_is = refl; edit_is = inr refl };
+      },
+      refl,
+    )
     tt found.2
 
 pub edits_of_line : (n seed : ℕ) (line : ScriptLine) (edits : List Edit) (grouped : Bool)

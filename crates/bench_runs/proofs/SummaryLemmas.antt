@@ -57,8 +57,8 @@ asked_one f limit budget s history log answers (change_by edits grouped) front (
 asked_one f limit budget s history log answers (change_by edits grouped) front (Unknown count) h = absurd h
 asked_one f limit budget s history log answers (change_by edits grouped) front TooMany h = absurd h
 asked_one f limit budget s history log answers (change_by edits grouped) front LogFull h = absurd h
-asked_one f limit budget s history log answers (Ask asked) front (Done effect) h = absurd h.replied.says
-asked_one f limit budget s history log answers (Ask asked) front (EditRefused fault) h = absurd h.replied.says
+asked_one f limit budget s history log answers (Ask asked) front (Done effects) h = absurd h.replied.says
+asked_one f limit budget s history log answers (Ask asked) front (EditRefused told fault) h = absurd h.replied.says
 asked_one f limit budget s history log answers (Ask asked) front Full h = absurd h.replied.says
 asked_one f limit budget s history log answers (Ask asked) front (Answered answer certificate) h = refl
 asked_one f limit budget s history log answers (Ask asked) front (QueryRefused fault) h = refl
@@ -96,8 +96,8 @@ none_rejected : (f : Framework) (limit budget s : ℕ) (history : List HistoryEn
     → CommandEnds f limit budget s history log answers command front body
     → IsRejection (framework_after f (take front history)) command body count → count ≡ 0
 none_rejected f limit budget s history log answers (change_by edits grouped) front body count h is = is
-none_rejected f limit budget s history log answers (Ask asked) front (Done effect) count h is = is
-none_rejected f limit budget s history log answers (Ask asked) front (EditRefused fault) count h is = is
+none_rejected f limit budget s history log answers (Ask asked) front (Done effects) count h is = is
+none_rejected f limit budget s history log answers (Ask asked) front (EditRefused told fault) count h is = is
 none_rejected f limit budget s history log answers (Ask asked) front Full count h is = is
 none_rejected f limit budget s history log answers (Ask asked) front (Answered answer certificate) count h is =
     let same = front_is history h.found front h.at.beginning h.at.counts in

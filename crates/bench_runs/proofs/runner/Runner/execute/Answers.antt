@@ -16,11 +16,11 @@ returns-in_ok-reply-in-Edit-clause-told g c =
     let new = c.commit.new.self in
     let told = c.in_ok-reply-in-Edit.reply in
     let grouped = c.in-Edit.grouped in
-    let edits = c.as_slice-edits-in-Edit.result.now in
+    let edits = c.as_slice-edits.result.now in
     let said = c.in_ok-reply-in-Edit.ensures in
     subst (λ m. IsTold hub c.args.budget m old new told) (sym c.in-Edit.is)
-    (subst (λ es. IsTold hub c.args.budget (change_by es grouped) old new told) c.as_slice-edits-in-Edit.ensures.edits
-    (told_of_edit hub c.args.budget grouped edits old new told c.as_slice-edits-in-Edit.ensures.size
+    (subst (λ es. IsTold hub c.args.budget (change_by es grouped) old new told) c.as_slice-edits.ensures.edits
+    (told_of_edit hub c.args.budget grouped edits old new told c.as_slice-edits.ensures.size
     (subst (λ n. IsEditReply grouped (limit_of hub) (start_of hub) n edits (seen_by old) (seen_by new) told)
     c.requires.number said.ok) said.engine said.followed said.answers))
 
