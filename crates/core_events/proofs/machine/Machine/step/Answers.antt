@@ -21,8 +21,8 @@ returns-in-Learn c =
 pub returns-in-Side : goal.returns-in-Side
 returns-in-Side c =
     side_comes (core_of c.args.self.now) (core_of c.keep_side.new.self) c.keep_side.result c.args.event.now
-    c.in-Side.session c.in-Side.from c.in-Side.literals c.as_slice.result.now c.in-Side.is c.as_slice.ensures
-    c.keep_side.ensures
+    c.in-Side.session c.in-Side.from c.in-Side.literals c.as_slice-in-Side.result.now c.in-Side.is
+    c.as_slice-in-Side.ensures c.keep_side.ensures
 
 pub returns-in-Share : goal.returns-in-Share
 returns-in-Share c =
