@@ -42,7 +42,8 @@ pub after_all : (f now : Framework) (edits : List Edit) (i : ℕ) → length edi
 after_all f now edits i le so_far = so_far ∙ ap (replay f) (take_all i edits le)
 
 -- the edits of entries up to the next one
-pub edits_next : (entries : List HistoryEntry) (i : ℕ) (entry : HistoryEntry) (now next : List Edit) → i < length entries
+pub edits_next : (entries : List HistoryEntry) (i : ℕ) (entry : HistoryEntry) (now next : List Edit)
+    → i < length entries
     → entry ≡ get_or entries i entry → now ≡ edits_of (take i entries) → next ≡ now ++ entry.edits
     → next ≡ edits_of (take (i + 1) entries)
 edits_next entries i entry now next lt read so_far step =

@@ -20,6 +20,7 @@ returns-in_err-add_entry c =
 pub returns : goal.returns
 returns c =
     turned c.seat.new.self c.args.session c.in_ok-index.index c.index_mut.result.now c.in_ok-index.ensures.at
-    c.index_mut.ensures.value (core_of c.args.self.now) c.in_ok-turns.turns c.add_entry.new.history (length c.as_slice-seen.result.now)
+    c.index_mut.ensures.value (core_of c.args.self.now) c.in_ok-turns.turns c.add_entry.new.history
+    (length c.as_slice-seen.result.now)
     (record { session = c.args.session; edits = c.args.edits } ∷ []) c.in_ok-index.ensures.same c.in_ok-turns.ensures
     c.in_ok-add_entry.ensures.ok (ap length c.as_slice-seen.ensures.value)
