@@ -108,8 +108,8 @@ record DoesAlone (f : Framework) (limit s : ℕ) (seen : List HistoryEntry) (com
 stays_alone : (s : ℕ) (seen now : List HistoryEntry) → AreOwn s now → GainsOthers s seen now → now ≡ seen ++ []
 stays_alone s seen now own gained = alone_same s seen now own gained ∙ sym (append-nil seen)
 
-edit_alone : (grouped : Bool) (f : Framework) (limit s : ℕ) (edits : List Edit) (seen now : List HistoryEntry) (front : ℕ)
-    (body : Body) → AreOwn s now → front ≡ length now → EditSays grouped limit f s edits seen now body
+edit_alone : (grouped : Bool) (f : Framework) (limit s : ℕ) (edits : List Edit) (seen now : List HistoryEntry)
+    (front : ℕ) (body : Body) → AreOwn s now → front ≡ length now → EditSays grouped limit f s edits seen now body
     → DoesAlone f limit s seen (change_by edits grouped) (record { front = front; body = body }) now
 edit_alone grouped f limit s edits seen now front (Done effects) own at says =
     let found = says.found in

@@ -225,7 +225,8 @@ made_same s edits grouped LogFull = refl
 
 module _ (f : Framework) (limit budget s : ℕ) (changes : List Change) (done : AreDone f changes)
     (few : edit_count (entries_in changes) ≤ limit)
-    (groups : All (λ (e : HistoryEntry). IsGroup e.edits) (entries_in changes)) (start : Core) (answers : List KeptAnswer)
+    (groups : All (λ (e : HistoryEntry). IsGroup e.edits) (entries_in changes)) (start : Core)
+    (answers : List KeptAnswer)
     (pooled : (kept : KeptAnswer) → Contains answers kept → HasPooled start kept.tokens) where
   -- the session stands in the core as it does between two lines
   record StandsIn (core : Core) (stand : Stand) : Type 0 where

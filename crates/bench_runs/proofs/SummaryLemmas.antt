@@ -52,7 +52,8 @@ asked_one : (f : Framework) (limit budget s : ℕ) (history : List HistoryEntry)
 asked_one f limit budget s history log answers (change_by edits grouped) front (Done effects) h = refl
 asked_one f limit budget s history log answers (change_by edits grouped) front (EditRefused told fault) h = refl
 asked_one f limit budget s history log answers (change_by edits grouped) front Full h = refl
-asked_one f limit budget s history log answers (change_by edits grouped) front (Answered answer certificate) h = absurd h
+asked_one f limit budget s history log answers (change_by edits grouped) front (Answered answer certificate) h =
+    absurd h
 asked_one f limit budget s history log answers (change_by edits grouped) front (QueryRefused fault) h = absurd h
 asked_one f limit budget s history log answers (change_by edits grouped) front (Unknown count) h = absurd h
 asked_one f limit budget s history log answers (change_by edits grouped) front TooMany h = absurd h
