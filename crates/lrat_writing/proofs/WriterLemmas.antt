@@ -193,7 +193,8 @@ given_after count (s ∷ ss) w =
     omega (arith, one, rest, long)
 
 same_final : (id id' first first' len len' last last' : ℕ) → id ≡ id' → first ≡ first' → len ≡ len' → last ≡ last'
-    → step_line id [] (range_with_len first len ++ last ∷ []) ≡ step_line id' [] (range_with_len first' len' ++ last' ∷ [])
+    → step_line id [] (range_with_len first len ++ last ∷ [])
+    ≡ step_line id' [] (range_with_len first' len' ++ last' ∷ [])
 same_final id id' first first' len len' last last' a b c d =
     ap (λ n. step_line n [] (range_with_len first len ++ last ∷ [])) a
     ∙ ap (λ n. step_line id' [] (range_with_len n len ++ last ∷ [])) b

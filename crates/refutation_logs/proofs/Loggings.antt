@@ -126,8 +126,8 @@ pub derived_added : (sides : List (List AtomLit)) (literals : List AtomLit) (hin
     → ((ss : List LogStep) → IsWriterOf ss before → IsWriterOf (ss ++ step_of kinds.Derived packed kept ∷ []) after)
     → new.trail.lits ≡ [] → after.count ≡ before.count
     → AddsStepFor sides (Derived literals hints) old new before after
-derived_added sides literals hints steps kept old new before after clause packed used different is appearance stands same
-    kept_is taken added written idle count =
+derived_added sides literals hints steps kept old new before after clause packed used different is appearance stands
+    same kept_is taken added written idle count =
     let grown : HasGrown old.atoms new.atoms
     = subst (λ xs. HasGrown old.atoms xs) (sym appearance) (atoms_grown old.atoms literals) in record {
       logged = step_of kinds.Derived packed kept;

@@ -29,7 +29,8 @@ use plain_lits::{Lit, PackedLit, Rows, StepId, Trail};
 use set_lists::NumSet;
 use std::alloc::Global;
 
-/// The clauses of steps over numbered variables, and what the check of one more takes: the lists are used again for each.
+/// The clauses of steps over numbered variables, and what the check of one more takes: the lists are used again for
+/// each.
 #[derive(Drop)]
 pub(crate) struct Table {
     /// The atom of each variable.

@@ -30,5 +30,6 @@ pub returns-clause-steps : goal.returns-clause-steps
 returns-clause-steps c =
     let long = c.len-index-end.ensures.steps in
     let test = c.loop-index-test.false in
-    subst (λ ss. IsWriterOf ss c.loop-index.writer) (take_all c.loop-index.index c.args.log.now.steps (omega (arith, long, test)))
+    subst (λ ss. IsWriterOf ss c.loop-index.writer)
+    (take_all c.loop-index.index c.args.log.now.steps (omega (arith, long, test)))
     c.loop-index.invariant.steps

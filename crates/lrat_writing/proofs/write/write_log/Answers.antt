@@ -12,4 +12,5 @@ finish-requires-clause-few c =
 pub returns : goal.returns
 returns c = c.in_ok-written.ensures c.args.log.now.steps c.in_ok-push_log.ensures.steps
     (c.in_ok-push_log.ensures.count ∙ c.new-writer.ensures.count ∙ c.clause_count.ensures.count)
-    (c.clause.ensures.clause ∙ ap (λ n. (step_at c.args.log.now.steps n).clause) (c.new-last.ensures ∙ c.len.ensures.steps))
+    (c.clause.ensures.clause
+    ∙ ap (λ n. (step_at c.args.log.now.steps n).clause) (c.new-last.ensures ∙ c.len.ensures.steps))
