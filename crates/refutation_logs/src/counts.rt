@@ -21,9 +21,10 @@ const MOST: usize = 1 << 62;
 // How many literals a clause has, each counted once.
 fn different_count(alloc: Global, clause: &[AtomLit]) -> Result<usize, Memory> {
     let mut atoms = AtomTable::new(alloc);
+    let mut members = Vec::new(alloc);
     let mut lits = Vec::new(alloc);
     let mut packed = Vec::new(alloc);
-    number(&mut atoms, clause, &mut lits, &mut packed)?;
+    number(&mut atoms, &mut members, clause, &mut lits, &mut packed)?;
     Ok(lits.len())
 }
 

@@ -29,11 +29,14 @@ use plain_lits::{Lit, PackedLit, Rows, StepId, Trail};
 use set_lists::NumSet;
 use std::alloc::Global;
 
-/// The clauses of steps over numbered variables, and what the check of one more takes: the lists are used again for each.
+/// The clauses of steps over numbered variables, and what the check of one more takes: the lists are used again for
+/// each.
 #[derive(Drop)]
 pub(crate) struct Table {
     /// The atom of each variable.
     pub atoms: AtomTable,
+    /// Guesses of the variables of members.
+    pub members: Vec<u32>,
     /// The clause of each step.
     pub clauses: Rows<PackedLit>,
     /// What the check assumes, which it takes back.
@@ -54,6 +57,7 @@ pub(crate) fn new_table(alloc: Global) -> Table
 {
     Table {
         atoms: AtomTable::new(alloc),
+        members: Vec::new(alloc),
         clauses: Rows::new(alloc),
         trail: Trail::new(alloc),
         lits: Vec::new(alloc),
@@ -82,6 +86,7 @@ fn add_axiom(
     let given = clause_of_axiom(alloc, name)?;
     number(
         &mut table.atoms,
+        &mut table.members,
         given.as_slice(),
         &mut table.lits,
         &mut table.packed,
@@ -113,6 +118,7 @@ fn add_side(
     let given = side_clause(alloc, framework, kind, &sets[place as usize - 1], place)?;
     number(
         &mut table.atoms,
+        &mut table.members,
         given.as_slice(),
         &mut table.lits,
         &mut table.packed,
@@ -184,6 +190,7 @@ fn add_derived(
     name(hints, &mut table.hints)?;
     number(
         &mut table.atoms,
+        &mut table.members,
         literals,
         &mut table.lits,
         &mut table.packed,

@@ -14,7 +14,8 @@ hints_used-used-requires-clause-clause_room c =
 
 pub hints_used-used-requires-clause-room : goal.hints_used-used-requires-clause-room
 hints_used-used-requires-clause-room c =
-    let more = no_fewer c.args.table.now.atoms c.number.new.atoms c.args.literals.now c.in_ok-number.ensures.appearance in
+    let more = no_fewer c.args.table.now.atoms c.number.new.atoms c.args.literals.now
+    c.in_ok-number.ensures.appearance in
     let room = c.in_ok-make_room.ensures.room in
     clauses_room c.args.table.now.atoms c.requires.shown.clauses c.args.table.now.clauses c.make_room.new.trail.vars
     c.requires.shown.standing (omega (arith, more, room))

@@ -5,8 +5,8 @@ use Rattle.lrat_writing.proofs.writer.Writer.push.Goals as goal
 
 pub returns-in-Axiom-clause-step : goal.returns-in-Axiom-clause-step
 returns-in-Axiom-clause-step c =
-    given_pushed c.push_given.result c.args.kind Axiom c.args.clause.now c.args.hints.now c.args.self.now _ c.in-Axiom.is
-    (λ steps. axiom_more steps c.args.clause.now c.args.hints.now c.args.self.now _) refl refl refl
+    given_pushed c.push_given.result c.args.kind Axiom c.args.clause.now c.args.hints.now c.args.self.now _
+    c.in-Axiom.is (λ steps. axiom_more steps c.args.clause.now c.args.hints.now c.args.self.now _) refl refl refl
     c.push_given.ensures.cnf c.push_given.ensures.ids c.push_given.ensures.given
 
 pub returns-in-Side-clause-step : goal.returns-in-Side-clause-step
@@ -17,5 +17,5 @@ returns-in-Side-clause-step c =
 
 pub returns-in-Derived-clause-step : goal.returns-in-Derived-clause-step
 returns-in-Derived-clause-step c =
-    derived_pushed c.push_derived.result c.args.kind c.args.clause.now c.args.hints.now c.args.self.now _ c.in-Derived.is
-    refl refl refl c.push_derived.ensures.lrat c.push_derived.ensures.ids c.push_derived.ensures.lines
+    derived_pushed c.push_derived.result c.args.kind c.args.clause.now c.args.hints.now c.args.self.now _
+    c.in-Derived.is refl refl refl c.push_derived.ensures.lrat c.push_derived.ensures.ids c.push_derived.ensures.lines

@@ -1,0 +1,17 @@
+use Rattle.std.proofs.Common.{◌-◌, arith, refl}
+use Rattle.lrat_writing.proofs.RoomsAndOrder.{rises_few, rises_more, all_rise}
+use Rattle.refutation_logs.proofs.numbering.rise.Goals as goal
+
+pub loop-index-init : goal.loop-index-init
+loop-index-init c = rises_few c.args.lits.now 1 (omega arith)
+
+pub loop-index-preserved : goal.loop-index-preserved
+loop-index-preserved c =
+    rises_more c.args.lits.now c.loop-index.index (c.loop-index.index - 1) c.is_before-arg-1.result
+    c.is_before-arg-in-loop-index-1.result c.loop-index-test.true c.loop-index.auto.index refl c.loop-index.invariant
+    c.is_before-arg-1.is c.is_before-arg-in-loop-index-1.is c.if-not-is_before.ensures
+
+pub returns : goal.returns
+returns c =
+    all_rise c.args.lits.now c.loop-index.index (let test = c.loop-index-test.false in omega (arith, test))
+    c.loop-index.invariant
