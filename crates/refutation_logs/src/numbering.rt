@@ -2,7 +2,7 @@
 
 ghost use Rattle.std.specs.Prelude.{◌≡◌, slice_get, Some, IfOk, IfSome, OnOk};
 ghost use Rattle.std.specs.Bool.{OnTrue};
-ghost use Rattle.plain_lits.specs.Literals.{IsClauseOf, LitsRise};
+ghost use Rattle.plain_lits.specs.Literals.{IsClauseOf, IsLitBefore, LitsRise};
 ghost use Rattle.plain_lits.specs.CheckLaws.{IsImage};
 ghost use Rattle.meaning_atoms.specs.declared.atom.Atom.TheVariants.{Member};
 ghost use Rattle.atom_table.specs.Numbering.{Numbers};
@@ -114,12 +114,19 @@ fn spell(
     Ok(())
 }
 
+// Whether the one literal comes before the other.
+fn comes_before(one: &Lit, other: &Lit) -> bool
+    ensures { OnTrue result (IsLitBefore one.now other.now) }
+{
+    is_before(*one, *other)
+}
+
 // Whether each literal comes before the next.
 fn rise(lits: &[Lit]) -> bool
     ensures { OnTrue result (LitsRise lits.now) }
 {
     for index in 1..lits.len() {
-        if !is_before(lits[index - 1], lits[index]) {
+        if !comes_before(&lits[index - 1], &lits[index]) {
             return false;
         }
     }

@@ -7,9 +7,9 @@ loop-index-init c = rises_few c.args.lits.now 1 (omega arith)
 
 pub loop-index-preserved : goal.loop-index-preserved
 loop-index-preserved c =
-    rises_more c.args.lits.now c.loop-index.index (c.loop-index.index - 1) c.is_before-arg-1.result
-    c.is_before-arg-in-loop-index-1.result c.loop-index-test.true c.loop-index.auto.index refl c.loop-index.invariant
-    c.is_before-arg-1.is c.is_before-arg-in-loop-index-1.is c.if-not-is_before.ensures
+    rises_more c.args.lits.now c.loop-index.index (c.loop-index.index - 1) _ _ c.loop-index-test.true
+    c.loop-index.auto.index refl c.loop-index.invariant c.index-lits-index.is c.index-lits-index-in-loop-index.is
+    c.if-not-comes_before.ensures
 
 pub returns : goal.returns
 returns c =
