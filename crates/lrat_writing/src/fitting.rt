@@ -36,8 +36,8 @@ fn have_room(log: &Log, vars: u32) -> bool
     true
 }
 
-/// Whether the one literal comes before the other.
-pub fn is_before(a: Lit, b: Lit) -> bool
+// Whether the one literal comes before the other.
+fn is_before(a: Lit, b: Lit) -> bool
     ensures { OnTrue result (IsLitBefore a b) }
 {
     if a.var < b.var {

@@ -2,7 +2,7 @@
 
 ghost use Rattle.std.specs.Prelude.{◌≡◌, slice_get, Some, IfOk, IfSome, OnOk};
 ghost use Rattle.std.specs.Bool.{OnTrue};
-ghost use Rattle.plain_lits.specs.Literals.{IsClauseOf, IsLitBefore, LitsRise};
+ghost use Rattle.plain_lits.specs.Literals.{IsClauseOf};
 ghost use Rattle.plain_lits.specs.CheckLaws.{IsImage};
 ghost use Rattle.meaning_atoms.specs.declared.atom.Atom.TheVariants.{Member};
 ghost use Rattle.atom_table.specs.Numbering.{Numbers};
@@ -11,7 +11,6 @@ ghost use Rattle.refutation_logs.specs.Variables.{IsKnown, StandsFor, with_atoms
 
 use atom_table::AtomTable;
 use lists::Memory;
-use lrat_writing::is_before;
 use meaning_atoms::{Atom, AtomLit};
 use plain_lits::{Lit, PackedLit};
 
@@ -114,32 +113,10 @@ fn spell(
     Ok(())
 }
 
-// Whether the one literal comes before the other.
-fn comes_before(one: &Lit, other: &Lit) -> bool
-    ensures { OnTrue result (IsLitBefore one.now other.now) }
-{
-    is_before(*one, *other)
-}
-
-// Whether each literal comes before the next.
-fn rise(lits: &[Lit]) -> bool
-    ensures { OnTrue result (LitsRise lits.now) }
-{
-    for index in 1..lits.len() {
-        if !comes_before(&lits[index - 1], &lits[index]) {
-            return false;
-        }
-    }
-    true
-}
-
 // Puts literals in order, each once.
 fn put_in_order(lits: &mut Vec<Lit>)
     ensures { IsClauseOf lits.old.items lits.new.items }
 {
-    if rise(lits.as_slice()) {
-        return;
-    }
     lits.sort_unstable();
     lits.dedup();
 }

@@ -1,9 +1,8 @@
-use Rattle.std.proofs.Common.{◌≡◌, subst}
+use Rattle.std.proofs.Common.{◌≡◌}
 use Rattle.std.specs.List.{dedup}
 use Rattle.std.proofs.lemmas.List.Filters.{dedup_is}
 use Rattle.std.proofs.lemmas.List.Kept.{Contains-from_dedup}
 use Rattle.std.proofs.lemmas.List.Sorted.{Contains-permutation, IsPermutation-sym}
-use Rattle.plain_lits.specs.Literals.{LitsRise}
 use Rattle.plain_lits.proofs.LitOrder.{lit_eq, LitsRise-dedup, Contains-dedup_lits}
 use Rattle.refutation_logs.proofs.numbering.put_in_order.Goals as goal
 
@@ -19,9 +18,3 @@ returns c =
         λ h. rw is (Contains-dedup_lits _ l (Contains-permutation _ _ l moved h)),
       );
     }
-
-pub returns-then-rise : goal.returns-then-rise
-returns-then-rise c = record {
-  rises = subst (λ x. LitsRise x) c.as_slice.ensures.value c.if-rise.ensures;
-  members = λ l. (λ h. h, λ h. h);
-}
