@@ -14,34 +14,76 @@ use plain_lits::{Lit, PackedLit, StepId};
 // How many digits a number of 64 bits has at most.
 const DIGITS: usize = 20;
 
-/// Adds a number and a blank: `write!` takes three times as long, and most of a text is numbers.
+/// How many numbers are added at once.
+pub(crate) const AT_ONCE: usize = 16;
+
+// The bytes that so many take at most, each with its sign and its blank.
+pub(crate) const ROOM: usize = AT_ONCE * (DIGITS + 2);
+
+/// Writes a number and a blank, which end at a place: where they begin. `write!` takes three times as long, and most of
+/// a text is numbers, so these are written from the last to the first and added many at once.
+pub(crate) fn write_number(piece: &mut [u8], number: u64, end: usize) -> usize
+    requires room { DIGITS + 1 ≤ end }
+    requires within { end ≤ length piece.old }
+    ensures written { drop result piece.new ≡ number_piece number ++ drop end piece.old }
+    ensures length { length piece.new ≡ length piece.old }
+    ensures room { end ≤ result + (DIGITS + 1) }
+{
+    let blank = end - 1;
+    piece[blank] = b' ';
+    write_digits(number, piece, blank)
+}
+
+// Writes a literal and a blank, which end at a place: where they begin. Variables of a log begin at 0, those of a text
+// at 1.
+fn write_literal(piece: &mut [u8], lit: Lit, end: usize) -> usize
+    requires var { lit.var < 2147483648 }
+    requires room { DIGITS + 2 ≤ end }
+    requires within { end ≤ length piece.old }
+    ensures written { drop result piece.new ≡ literal_piece lit ++ drop end piece.old }
+    ensures length { length piece.new ≡ length piece.old }
+    ensures room { end ≤ result + (DIGITS + 2) }
+{
+    let start = write_number(piece, lit.var as u64 + 1, end);
+    if lit.positive {
+        return start;
+    }
+    let sign = start - 1;
+    piece[sign] = b'-';
+    sign
+}
+
+// Writes the literals of a clause, with a blank behind each, at the end of a piece: where they begin.
+fn write_literals(piece: &mut [u8], clause: &[PackedLit]) -> usize
+    requires { length clause.now * (DIGITS + 2) ≤ length piece.old }
+    ensures { drop result piece.new ≡ flat_map literal_piece clause.now }
+{
+    let mut start = piece.len();
+    for index in 0..clause.len() {
+        let packed = clause[clause.len() - 1 - index];
+        start = write_literal(piece, packed.lit(), start);
+    }
+    start
+}
+
+// Adds a number and a blank.
 pub(crate) fn push_number(text: &mut Vec<u8>, number: u64) -> Result<(), Memory>
     ensures { OnOk result (text.new.items ≡ text.old.items ++ number_piece number) }
 {
     let mut piece = [b' '; DIGITS + 1];
-    let start = write_digits(number, &mut piece, DIGITS);
+    let start = write_number(&mut piece, number, DIGITS + 1);
     text.extend_from_slice(&piece[start..])?;
     Ok(())
 }
 
-// Adds the `-` of a negation.
-fn push_sign(text: &mut Vec<u8>, positive: bool) -> Result<(), Memory>
-    ensures { OnOk result (text.new.items ≡ text.old.items ++ sign_text positive) }
+// Adds a few literals, with a blank behind each.
+fn push_few_literals(text: &mut Vec<u8>, clause: &[PackedLit]) -> Result<(), Memory>
+    requires { length clause.now ≤ AT_ONCE }
+    ensures { OnOk result (text.new.items ≡ text.old.items ++ flat_map literal_piece clause.now) }
 {
-    if positive {
-        return Ok(());
-    }
-    text.push(b'-')?;
-    Ok(())
-}
-
-// Adds a literal and a blank. Variables of a log begin at 0, those of a text at 1.
-fn push_literal(text: &mut Vec<u8>, lit: Lit) -> Result<(), Memory>
-    requires { lit.var < 2147483648 }
-    ensures { OnOk result (text.new.items ≡ text.old.items ++ literal_piece lit) }
-{
-    push_sign(text, lit.positive)?;
-    push_number(text, lit.var as u64 + 1)?;
+    let mut piece = [b' '; ROOM];
+    let start = write_literals(&mut piece, clause);
+    text.extend_from_slice(&piece[start..])?;
     Ok(())
 }
 
@@ -49,8 +91,11 @@ fn push_literal(text: &mut Vec<u8>, lit: Lit) -> Result<(), Memory>
 pub(crate) fn push_literals(text: &mut Vec<u8>, clause: &[PackedLit]) -> Result<(), Memory>
     ensures { OnOk result (text.new.items ≡ text.old.items ++ flat_map literal_piece clause.now) }
 {
-    for packed in clause {
-        push_literal(text, packed.lit())?;
+    let mut from = 0;
+    while from < clause.len() {
+        let to = from + AT_ONCE.min(clause.len() - from);
+        push_few_literals(text, &clause[from..to])?;
+        from = to;
     }
     Ok(())
 }
@@ -69,7 +114,7 @@ pub(crate) fn push_units(text: &mut Vec<u8>, clause: &[PackedLit]) -> Result<(),
     ensures { OnOk result (text.new.items ≡ text.old.items ++ flat_map unit_piece clause.now) }
 {
     for packed in clause {
-        push_literal(text, !packed.lit())?;
+        push_few_literals(text, &[PackedLit::pack(!packed.lit())])?;
         text.extend_from_slice(b"0\n")?;
     }
     Ok(())
