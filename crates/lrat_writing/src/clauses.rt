@@ -1,8 +1,8 @@
 //! Writing the clauses of a log.
 
-ghost use Rattle.std.specs.Prelude.{◌≡◌, ◌<◌, ◌≤◌, ◌+◌, ◌++◌, length, OnOk};
+ghost use Rattle.std.specs.Prelude.{◌≡◌, ◌<◌, ◌≤◌, ◌+◌, ◌*◌, ◌++◌, length, drop, OnOk};
 ghost use Rattle.std.specs.List.{flat_map};
-ghost use Rattle.lrat_text.specs.Numbers.{sign_text};
+ghost use Rattle.lrat_writing.specs.declared.clauses.TheConstants.{AT_ONCE, LITERAL_BYTES, NUMBER_BYTES};
 ghost use Rattle.lrat_writing.specs.Pieces.{literal_piece, number_piece, clause_piece, unit_piece, kind_count};
 ghost use Rattle.lrat_writing.specs.Walks.{cnf_clauses, given_clauses};
 
@@ -11,38 +11,38 @@ use itoa::write_digits;
 use lists::Memory;
 use plain_lits::{Lit, PackedLit, StepId};
 
-// How many digits a number of 64 bits has at most.
-const DIGITS: usize = 20;
-
-/// How many numbers are added at once.
+/// How many numbers are added to a text at once.
 pub(crate) const AT_ONCE: usize = 16;
 
-// The bytes that so many take at most, each with its sign and its blank.
-pub(crate) const ROOM: usize = AT_ONCE * (DIGITS + 2);
+/// The bytes that a number of 64 bits takes at most: its digits, and a blank.
+pub(crate) const NUMBER_BYTES: usize = 21;
 
-/// Writes a number and a blank, which end at a place: where they begin. `write!` takes three times as long, and most of
-/// a text is numbers, so these are written from the last to the first and added many at once.
+/// The bytes that a literal takes at most: a number's, and its sign.
+const LITERAL_BYTES: usize = 22;
+
+/// Writes a number and a blank, which end at a place, and gives where they begin. `write!` takes three times as long,
+/// and most of a text is numbers: these are written from the last to the first, and added many at once.
 pub(crate) fn write_number(piece: &mut [u8], number: u64, end: usize) -> usize
-    requires room { DIGITS + 1 ≤ end }
+    requires room { NUMBER_BYTES ≤ end }
     requires within { end ≤ length piece.old }
     ensures written { drop result piece.new ≡ number_piece number ++ drop end piece.old }
-    ensures length { length piece.new ≡ length piece.old }
-    ensures room { end ≤ result + (DIGITS + 1) }
+    ensures few { end ≤ result + NUMBER_BYTES }
+    ensures before { result ≤ end }
 {
     let blank = end - 1;
     piece[blank] = b' ';
     write_digits(number, piece, blank)
 }
 
-// Writes a literal and a blank, which end at a place: where they begin. Variables of a log begin at 0, those of a text
-// at 1.
+// Writes a literal and a blank, which end at a place, and gives where they begin. Variables of a log begin at 0, those
+// of a text at 1.
 fn write_literal(piece: &mut [u8], lit: Lit, end: usize) -> usize
     requires var { lit.var < 2147483648 }
-    requires room { DIGITS + 2 ≤ end }
+    requires room { LITERAL_BYTES ≤ end }
     requires within { end ≤ length piece.old }
     ensures written { drop result piece.new ≡ literal_piece lit ++ drop end piece.old }
-    ensures length { length piece.new ≡ length piece.old }
-    ensures room { end ≤ result + (DIGITS + 2) }
+    ensures few { end ≤ result + LITERAL_BYTES }
+    ensures before { result ≤ end }
 {
     let start = write_number(piece, lit.var as u64 + 1, end);
     if lit.positive {
@@ -53,25 +53,38 @@ fn write_literal(piece: &mut [u8], lit: Lit, end: usize) -> usize
     sign
 }
 
-// Writes the literals of a clause, with a blank behind each, at the end of a piece: where they begin.
+// Writes the literals of a clause at the end of a piece, with a blank behind each, and gives where they begin.
 fn write_literals(piece: &mut [u8], clause: &[PackedLit]) -> usize
-    requires { length clause.now * (DIGITS + 2) ≤ length piece.old }
-    ensures { drop result piece.new ≡ flat_map literal_piece clause.now }
+    requires { length clause.now * LITERAL_BYTES ≤ length piece.old }
+    ensures written { drop result piece.new ≡ flat_map literal_piece clause.now }
+    ensures within { result ≤ length piece.old }
 {
     let mut start = piece.len();
-    for index in 0..clause.len() {
-        let packed = clause[clause.len() - 1 - index];
-        start = write_literal(piece, packed.lit(), start);
+    let mut left = clause.len();
+    while left > 0 {
+        left -= 1;
+        start = write_literal(piece, clause[left].lit(), start);
     }
     start
 }
 
-// Adds a number and a blank.
+/// Adds a number and a blank.
 pub(crate) fn push_number(text: &mut Vec<u8>, number: u64) -> Result<(), Memory>
     ensures { OnOk result (text.new.items ≡ text.old.items ++ number_piece number) }
 {
-    let mut piece = [b' '; DIGITS + 1];
-    let start = write_number(&mut piece, number, DIGITS + 1);
+    let mut piece = [b' '; NUMBER_BYTES];
+    let start = write_number(&mut piece, number, NUMBER_BYTES);
+    text.extend_from_slice(&piece[start..])?;
+    Ok(())
+}
+
+// Adds a literal and a blank.
+fn push_literal(text: &mut Vec<u8>, lit: Lit) -> Result<(), Memory>
+    requires { lit.var < 2147483648 }
+    ensures { OnOk result (text.new.items ≡ text.old.items ++ literal_piece lit) }
+{
+    let mut piece = [b' '; LITERAL_BYTES];
+    let start = write_literal(&mut piece, lit, LITERAL_BYTES);
     text.extend_from_slice(&piece[start..])?;
     Ok(())
 }
@@ -81,7 +94,7 @@ fn push_few_literals(text: &mut Vec<u8>, clause: &[PackedLit]) -> Result<(), Mem
     requires { length clause.now ≤ AT_ONCE }
     ensures { OnOk result (text.new.items ≡ text.old.items ++ flat_map literal_piece clause.now) }
 {
-    let mut piece = [b' '; ROOM];
+    let mut piece = [b' '; AT_ONCE * LITERAL_BYTES];
     let start = write_literals(&mut piece, clause);
     text.extend_from_slice(&piece[start..])?;
     Ok(())
@@ -114,7 +127,7 @@ pub(crate) fn push_units(text: &mut Vec<u8>, clause: &[PackedLit]) -> Result<(),
     ensures { OnOk result (text.new.items ≡ text.old.items ++ flat_map unit_piece clause.now) }
 {
     for packed in clause {
-        push_few_literals(text, &[PackedLit::pack(!packed.lit())])?;
+        push_literal(text, !packed.lit())?;
         text.extend_from_slice(b"0\n")?;
     }
     Ok(())

@@ -52,8 +52,8 @@ fn is_before(a: Lit, b: Lit) -> bool
     b.positive
 }
 
-/// Whether each literal of a clause comes before the next.
-pub fn rises(clause: &[PackedLit]) -> bool
+// Whether each literal of a clause comes before the next.
+fn rises(clause: &[PackedLit]) -> bool
     ensures { OnTrue result (LitsRise clause.now) }
 {
     for index in 1..clause.len() {

@@ -9,7 +9,7 @@ mod steps;
 mod write;
 mod writer;
 
-pub use fitting::{can_write, rises};
+pub use fitting::can_write;
 pub use laws::{cnf_reads_back, log_is_verified, refutation_reads_back};
 pub use write::write_refutation;
 pub use writer::{Writer, Written};
