@@ -1,15 +1,15 @@
 -- What is added piece by piece is the text.
-use Rattle.std.proofs.Common.{◌≡◌, ℕ, ◌+◌, List, [], ◌∷◌, ◌++◌, length, length-append, map, refl, sym, ap, ◌∙◌, arith, codes, append_assoc}
-use Rattle.std.specs.List.{flat_map, range_with_len}
+use Rattle.std.proofs.Common.{◌≡◌, ℕ, ◌+◌, ◌-◌, ◌≤◌, List, [], ◌∷◌, ◌++◌, length, length-append, map, take, refl, sym, ap, ◌∙◌, arith, codes, append_assoc}
+use Rattle.std.specs.List.{flat_map, range_with_len, slice_range}
 use Rattle.std.specs.Fmt.{decimal}
 use Rattle.std.proofs.lemmas.Grind.{flat_map-append}
+use Rattle.std.proofs.Math.Seq.{take-add}
 use Rattle.std.proofs.lemmas.List.{append-nil, length-map, map-append}
 use Rattle.plain_lits.specs.declared.lit.Lit.{Lit}
 use Rattle.plain_lits.specs.Literals.{negation}
 use Rattle.hinted_log.specs.Logs.{Step}
 use Rattle.hinted_log.specs.declared.step_kind.StepKind.{StepKind}
 use Rattle.hinted_log.specs.declared.step_kind.StepKind.TheVariants.{Axiom, Side, Derived}
-use Rattle.lrat_text.specs.Numbers.{sign_text}
 use Rattle.lrat_text.specs.Checking.{step_line}
 use Rattle.lrat_writing.specs.Texts.{lit_text, spaced, clause_line, header_line, cnf_text, step_text}
 use Rattle.lrat_writing.specs.Pieces.{literal_piece, number_piece, unit_piece, kind_piece, given_piece}
@@ -78,13 +78,18 @@ final_text id row last =
     ∙ ap (λ x. number_piece id ++ (codes "0 " ++ x)) (ap (λ x. x ++ codes "0\n") hints
     ∙ append_assoc f (number_piece last) (codes "0\n"))
 
--- a sign, and a number behind it
-pub literal_written : (base text new : List ℕ) (l : Lit) (number : ℕ) → text ≡ base ++ sign_text l.positive
-    → new ≡ text ++ number_piece number → number ≡ l.var + 1 → new ≡ base ++ literal_piece l
-literal_written base text new l number h more is =
-    more ∙ ap (λ x. x ++ number_piece number) h ∙ append_assoc base (sign_text l.positive) (number_piece number)
-    ∙ ap (λ n. base ++ (sign_text l.positive ++ number_piece n)) is
-    ∙ ap (λ x. base ++ x) (sym (append_assoc (sign_text l.positive) (decimal (l.var + 1)) (32 ∷ [])))
+-- a part more of a list
+pub part_written : {X : Type 0} (f : X → List ℕ) (xs : List X) (from to : ℕ) (base text new : List ℕ) → from ≤ to
+    → text ≡ base ++ flat_map f (take from xs) → new ≡ text ++ flat_map f (slice_range xs from to)
+    → new ≡ base ++ flat_map f (take to xs)
+part_written f xs from to base text new le h more =
+    let a = flat_map f (take from xs) in
+    let b = flat_map f (slice_range xs from to) in
+    let at : from + (to - from) ≡ to = omega arith in
+    let cut : take to xs ≡ take from xs ++ slice_range xs from to
+    = ap (λ n. take n xs) (sym at) ∙ take-add from (to - from) xs in
+    more ∙ ap (λ x. x ++ b) h ∙ append_assoc base a b
+    ∙ ap (λ x. base ++ x) (sym (ap (flat_map f) cut ∙ flat_map-append f (take from xs) (slice_range xs from to)))
 
 -- numbers in a row, with one more
 pub row_written : (base text new : List ℕ) (first index number : ℕ)

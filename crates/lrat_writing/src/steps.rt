@@ -1,13 +1,14 @@
 //! Writing the lines of derived steps.
 
-ghost use Rattle.std.specs.Prelude.{◌≡◌, ◌<◌, ◌++◌, ◌∷◌, [], map, OnOk};
+ghost use Rattle.std.specs.Prelude.{◌≡◌, ◌<◌, ◌≤◌, ◌*◌, ◌++◌, ◌∷◌, [], length, drop, map, OnOk};
 ghost use Rattle.std.specs.List.{flat_map, range_with_len};
 ghost use Rattle.lrat_text.specs.Checking.{step_line};
+ghost use Rattle.lrat_writing.specs.declared.clauses.TheConstants.{AT_ONCE, NUMBER_BYTES};
 ghost use Rattle.lrat_writing.specs.Texts.{step_text};
 ghost use Rattle.lrat_writing.specs.Pieces.{number_piece};
 ghost use Rattle.lrat_writing.specs.Walks.{id_in, shifted_clause};
 
-use crate::clauses::{push_literals, push_number};
+use crate::clauses::{AT_ONCE, NUMBER_BYTES, push_literals, push_number, write_number};
 use lists::Memory;
 use plain_lits::{PackedLit, StepId};
 
@@ -22,13 +23,43 @@ pub(crate) fn id_of(ids: &[u64], number: usize) -> u64
     0
 }
 
+// Writes the ids of steps at the end of a piece, with a blank behind each, and gives where they begin.
+fn write_hints(piece: &mut [u8], ids: &[u64], hints: &[StepId]) -> usize
+    requires { length hints.now * NUMBER_BYTES ≤ length piece.old }
+    ensures written { drop result piece.new ≡ flat_map (λ h. number_piece (id_in ids.now h)) hints.now }
+    ensures within { result ≤ length piece.old }
+{
+    let mut start = piece.len();
+    let mut left = hints.len();
+    while left > 0 {
+        left -= 1;
+        start = write_number(piece, id_of(ids, hints[left].number() as usize), start);
+    }
+    start
+}
+
+// Adds the ids of a few steps, with a blank behind each.
+fn push_few_hints(text: &mut Vec<u8>, ids: &[u64], hints: &[StepId]) -> Result<(), Memory>
+    requires { length hints.now ≤ AT_ONCE }
+    ensures { OnOk result (text.new.items
+        ≡ text.old.items ++ flat_map (λ h. number_piece (id_in ids.now h)) hints.now) }
+{
+    let mut piece = [b' '; AT_ONCE * NUMBER_BYTES];
+    let start = write_hints(&mut piece, ids, hints);
+    text.extend_from_slice(&piece[start..])?;
+    Ok(())
+}
+
 // Adds the ids of steps, with a blank behind each.
 fn push_hints(text: &mut Vec<u8>, ids: &[u64], hints: &[StepId]) -> Result<(), Memory>
     ensures { OnOk result (text.new.items
         ≡ text.old.items ++ flat_map (λ h. number_piece (id_in ids.now h)) hints.now) }
 {
-    for hint in hints {
-        push_number(text, id_of(ids, hint.number() as usize))?;
+    let mut from = 0;
+    while from < hints.len() {
+        let to = from + AT_ONCE.min(hints.len() - from);
+        push_few_hints(text, ids, &hints[from..to])?;
+        from = to;
     }
     Ok(())
 }
