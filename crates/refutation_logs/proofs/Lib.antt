@@ -1,3 +1,4 @@
 pub mod Standing
 pub mod Loggings
 pub mod Accepted
+pub mod UsedHints
