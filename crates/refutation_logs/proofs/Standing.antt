@@ -166,7 +166,7 @@ different_vars atoms v w different lt lt' e =
     ⊎_elim (λ same. same) (λ ne. ⊎_elim (λ below. absurd (different v w Ad below lt' e))
     (λ above. absurd (different w v Ad above lt (sym e))) ne) (cases_order v w)
 
-over_renames : (atoms : List Atom) → AreDifferent atoms → Renames negation negated (lit_over atoms) (IsKnown atoms)
+pub over_renames : (atoms : List Atom) → AreDifferent atoms → Renames negation negated (lit_over atoms) (IsKnown atoms)
 over_renames atoms different = record {
   closed = λ l known. known;
   negates = λ l known. refl;

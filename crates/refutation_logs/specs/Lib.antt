@@ -1,4 +1,5 @@
 pub mod Variables
 pub mod Logged
+pub mod Counts
 pub mod Tables
 pub mod Exports

@@ -6,6 +6,7 @@ mod counts;
 mod numbering;
 mod steps;
 pub mod texts;
+mod used;
 
 pub use certificate::export_refutation;
 pub use texts::Exported;

@@ -1,10 +1,7 @@
 //! The steps of a refutation, checked over numbered variables and written.
 
-ghost use Rattle.std.specs.Prelude.{◌≡◌, ◌<◌, ◌≤◌, ◌+◌, ℕ, [], length, Err, Ok, OnOk};
+ghost use Rattle.std.specs.Prelude.{◌≡◌, ◌<◌, ◌≤◌, ◌+◌, [], length, OnOk};
 ghost use Rattle.edit_rules.specs.Kinds.{framework_of};
-ghost use Rattle.plain_lits.specs.Checking.{HasRoomFor, HaveRoomFor};
-ghost use Rattle.plain_lits.specs.HintCheck.{Checks};
-ghost use Rattle.plain_lits.specs.Literals.{negation};
 ghost use Rattle.certificate_claims.specs.declared.certificate.Step.TheVariants.{Axiom, Derived, Side};
 ghost use Rattle.certificate_claims.specs.Refutations.{IsAxiomOf};
 ghost use Rattle.answer_claims.specs.SideClauses.{sides_of};
@@ -16,6 +13,7 @@ ghost use Rattle.refutation_logs.specs.Tables.{AddsStepFor, IsLogged};
 ghost use Rattle.refutation_logs.specs.Variables.{IsShown};
 
 use crate::numbering::number;
+use crate::used::hints_used;
 use answer_claims::{SideKind, side_clause};
 use atom_table::AtomTable;
 use certificate_claims::{Step, clause_of_axiom};
@@ -24,7 +22,6 @@ use hinted_log::StepKind;
 use lists::Memory;
 use lrat_writing::Writer;
 use meaning_atoms::{AtomLit, AxiomName};
-use plain_lits::check::check;
 use plain_lits::{Lit, PackedLit, Rows, StepId, Trail};
 use set_lists::NumSet;
 use std::alloc::Global;
@@ -143,26 +140,6 @@ fn make_room(atoms: &AtomTable, trail: &mut Trail) -> Result<(), Memory>
 {
     trail.make_room(atoms.len())?;
     Ok(())
-}
-
-// How many hints the check of a clause that it takes looks at.
-fn hints_used(
-    trail: &mut Trail,
-    clauses: &Rows<PackedLit>,
-    clause: &[Lit],
-    hints: &[StepId],
-) -> usize
-    requires idle { trail.old.lits ≡ [] }
-    requires clause_room { HasRoomFor trail.old.vars clause.now }
-    requires room { HaveRoomFor trail.old.vars clauses.now }
-    requires taken { (place : ℕ) → Checks negation clauses.now clause.now hints.now (Err place) → ⊥ }
-    ensures taken { Checks negation clauses.now clause.now hints.now (Ok result) }
-    ensures idle { trail.new.lits ≡ [] }
-{
-    match check(trail, clauses, clause, hints) {
-        Ok(used) => used,
-        Err(_) => unreachable!(),
-    }
 }
 
 // Adds a clause that follows by hints.

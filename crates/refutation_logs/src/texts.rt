@@ -1,11 +1,12 @@
 //! The steps of a refutation as two texts.
 
 ghost use Rattle.std.specs.Prelude.{◌≡◌, ◌<◌, ◌≤◌, ◌+◌, List, length, IfOk};
-ghost use Rattle.std.specs.Bool.{OnTrue};
 ghost use Rattle.edit_rules.specs.Kinds.{framework_of};
 ghost use Rattle.answer_claims.specs.SideClauses.{sides_of};
+ghost use Rattle.atom_table.specs.Numbering.{AreDifferent};
 ghost use Rattle.hinted_log.specs.Logs.{Step as LogStep, clauses_of};
 ghost use Rattle.lrat_text.specs.declared.cnf.TheConstants.{MAX_VARIABLE};
+ghost use Rattle.lrat_writing.specs.Walks.{cnf_clauses};
 ghost use Rattle.lrat_writing.specs.Writers.{AreTextsOf, IsWriterOf};
 ghost use Rattle.refutation_logs.specs.Logged.{AllHold};
 ghost use Rattle.refutation_logs.specs.Exports.{IsExportOf};
@@ -19,7 +20,6 @@ use hinted_log::MAX_STEPS;
 use lists::Memory;
 use lrat_text::MAX_VARIABLE;
 use lrat_writing::{Writer, Written};
-use plain_lits::PackedLit;
 use set_lists::NumSet;
 use std::alloc::Global;
 
@@ -41,15 +41,6 @@ impl Drop for Exported {
     }
 }
 
-// Whether the clauses that are given and the literals of the last are as many as was said. They always are: the last
-// clause has as many literals by the variables of these atoms as by those of others.
-fn is_counted(writer: &Writer, last: &[PackedLit]) -> bool
-    requires { writer.now.given < 4294967296 }
-    ensures { OnTrue result (writer.now.given + length last.now ≡ writer.now.count) }
-{
-    writer.given + last.len() as u64 == writer.count
-}
-
 // The texts of steps that are written, of which the last is at an index.
 fn write_table(
     alloc: Global,
@@ -62,17 +53,16 @@ fn write_table(
     requires count { writer.count < 9223372036854775808 }
     ensures vars { IfOk result (λ e. e.vars ≡ length table.now.atoms) }
     ensures few { IfOk result (λ e. e.vars ≤ MAX_VARIABLE) }
+    ensures different { AreDifferent table.now.atoms }
     ensures texts { IfOk result (λ e. (logged : List LogStep) → IsWriterOf logged writer
-        → table.now.clauses ≡ clauses_of logged → index + 1 ≡ length logged → AreTextsOf e.vars logged e.written) }
+        → table.now.clauses ≡ clauses_of logged → index + 1 ≡ length logged
+        → writer.count ≡ length (cnf_clauses logged) → AreTextsOf e.vars logged e.written) }
 {
     let vars = table.atoms.len();
     if vars > MAX_VARIABLE as usize {
         return Err(Memory);
     }
     let last = table.clauses.row(index);
-    if !is_counted(&writer, last) {
-        return Err(Memory);
-    }
     let written = writer.finish(alloc, vars as u32, last)?;
     Ok(Exported { vars, written })
 }
