@@ -23,7 +23,7 @@ use Rattle.lrat_writing.specs.Texts.{header_line, step_text, lrat_text}
 use Rattle.lrat_writing.specs.Pieces.{clause_piece, unit_piece, given_piece, IsWritten}
 use Rattle.lrat_writing.specs.Walks.{shifted_clause, given_by, given_of, given_clauses, last_clause, cnf_clauses, formula_of, Walk, start, id_in, next_id, with_given, with_derived, walk_on, walk_step, walk, final_line, lines_of}
 use Rattle.lrat_writing.specs.Writers.{AreTextsOf, IsWriterOf, step_of}
-use Rattle.lrat_writing.proofs.PieceLemmas.{cnf_count, cnf_written}
+use Rattle.lrat_writing.proofs.PieceLemmas.{cnf_written}
 use Rattle.lrat_writing.proofs.Readable.{log_checks, log_reads}
 
 -- ---- one step more
@@ -252,11 +252,3 @@ pub texts_check : (vars : ℕ) (log : LogState) (all : Written) → AreTextsOf v
 texts_check vars log all h is some room few rise short =
     subst (λ text. IsChecked (formula_of vars log.steps) text (Ok Verified)) (sym h.lrat)
     (log_checks vars log is some room few rise (subst (λ text. length text ≤ MAX_INPUT) h.cnf short))
-
--- where the steps that are given and the literals of the last one are as many as was said, these are the CNF's clauses
-pub all_counted : (steps : List Step) (last : List Lit) (w : Writer) → IsWriterOf steps w → last ≡ last_clause steps
-    → w.given + length last ≡ w.count → w.count ≡ length (cnf_clauses steps)
-all_counted steps last w h same is =
-    let given = given_after w.count steps start in
-    let given_is = h.lrat.given_is in
-    sym is ∙ cnf_count steps w.given last (omega (arith, given, given_is)) same
