@@ -28,7 +28,7 @@ tuples in the program's order. `check(framework, task, answer, query=None)` retu
 `answer_text` and `read_answer` write and read an answer as the program prints it. A `Script` has edits, groups of edits
 and questions on a framework that changes; `Script.run` returns its `Transcript`.
 
-Every other ending of the program is an exception, a subclass of `ArgueError`, named as in the README's table of
+Every other ending of the program is an exception, a subclass of `ArgueError`, named as in docs/USAGE.md's table of
 statuses. Nothing is printed. Where the program is found: the argument `program`, else the environment variable
 BURGAOUEZ_ARGUE, else `argue` at the top of the repository that this file lies in, else `argue` on the PATH. That of the
 repository proves and builds the program at its first call, which takes minutes and all processors: build it by hand
@@ -88,7 +88,7 @@ class Usage(ArgueError):
 
 
 class LineFault(ArgueError):
-    """Status 2: a line of a text has a fault; `line` is counted from 1, `name` is the fault's in the README."""
+    """Status 2: a line of a text has a fault; `line` is counted from 1, `name` is the fault's in docs/USAGE.md."""
 
     source = ""
 
@@ -175,7 +175,7 @@ class BuildFailed(ArgueError):
 
 
 class UnexpectedEnding(ArgueError):
-    """The program ended as the README's table doesn't say: by a signal, or with other words."""
+    """The program ended as the table of docs/USAGE.md doesn't say: by a signal, or with other words."""
 
     def __init__(self, status: int, output: str):
         super().__init__(f"unexpected ending with status {status}: {output[:200]!r}")
@@ -311,7 +311,7 @@ class Framework:
 
     @classmethod
     def from_text(cls, text: str) -> Framework:
-        """The framework that a text in the README's format describes, with the sentences and names of its comments
+        """The framework that a text in the format of docs/USAGE.md describes, with the sentences and names of its comments
         `# N: TEXT` and `# N NAME: TEXT`. Of two comments on a number the first counts, of two numbers with a name too.
 
         Raises FrameworkFault for the first line with a fault, named as the program names it.
@@ -400,7 +400,7 @@ class Framework:
         return _edited(self, edit, rule or max((one.number for one in self.rules), default=0) + 1)
 
     def text(self) -> str:
-        """The framework in the README's format, with its sentences and names as comments. Rules are numbered anew by
+        """The framework in the format of docs/USAGE.md, with its sentences and names as comments. Rules are numbered anew by
         whoever reads it: from 1, in this order.
 
         >>> Framework.of_attacks([(1, 2)], texts={1: "Yes."}, names={1: "claim"}).text()
@@ -523,7 +523,7 @@ class _Reading:
         self.heads: set[int] = set()
 
     def take(self, line: _Line) -> Optional[str]:
-        """Takes a line behind the header; returns the name of its fault, the first in the README's order."""
+        """Takes a line behind the header; returns the name of its fault, the first in the order of docs/USAGE.md."""
         fields = line.fields
         if fields[0] == "p":
             return "SecondHeader"
@@ -680,7 +680,7 @@ class Accepted:
 
 @dataclass(frozen=True)
 class Rejected:
-    """Status 8: the certificate doesn't show the answer; `cause` is named as in the README."""
+    """Status 8: the certificate doesn't show the answer; `cause` is named as in docs/USAGE.md."""
 
     cause: str
     refutation: int

@@ -277,7 +277,7 @@ class AnsweringTest(unittest.TestCase):
 
 
 class StatusTest(unittest.TestCase):
-    """Each row of the README's table of statuses."""
+    """Each row of the table of statuses of docs/USAGE.md."""
 
     def test_usage(self):
         for task, query in (("XX", None), ("DC-PR", None), ("SE-GR", 1), ("EE-GR", None)):
