@@ -311,7 +311,7 @@ class Framework:
 
     @classmethod
     def from_text(cls, text: str) -> Framework:
-        """The framework that a text in the format of docs/USAGE.md describes, with the sentences and names of its comments
+        """The framework that a text in docs/USAGE.md's format describes, with the sentences and names of its comments
         `# N: TEXT` and `# N NAME: TEXT`. Of two comments on a number the first counts, of two numbers with a name too.
 
         Raises FrameworkFault for the first line with a fault, named as the program names it.
@@ -400,7 +400,7 @@ class Framework:
         return _edited(self, edit, rule or max((one.number for one in self.rules), default=0) + 1)
 
     def text(self) -> str:
-        """The framework in the format of docs/USAGE.md, with its sentences and names as comments. Rules are numbered anew by
+        """The framework in docs/USAGE.md's format, with its sentences and names as comments. Rules are numbered anew by
         whoever reads it: from 1, in this order.
 
         >>> Framework.of_attacks([(1, 2)], texts={1: "Yes."}, names={1: "claim"}).text()
