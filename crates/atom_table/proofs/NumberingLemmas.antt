@@ -1,13 +1,14 @@
 -- Atoms found by `==`, which is equality of their values.
-use Rattle.std.proofs.Common.{◌≡◌, inl, inr, ℕ, List, [], ◌∷◌, ◌++◌, get_or, Bool, true, false, refl, sym, ◌∙◌, ap}
+use Rattle.std.proofs.Common.{◌≡◌, inl, inr, ℕ, ◌<◌, List, [], ◌∷◌, ◌++◌, length, length-append, get_or, Bool, true, false, arith, refl, sym, ◌∙◌, ap, ⊎_elim}
+use Rattle.std.proofs.lemmas.List.{get_or_append_left}
 use Rattle.std.specs.Prelude.{◌⊎◌, if◌then◌else◌, Contains}
 use Rattle.std.specs.List.{list_any}
 use Rattle.std.proofs.lemmas.Bool.{true≢false}
 use Rattle.lists.proofs.ListTests.{any_from}
-use Rattle.atom_table.specs.Numbering.{Numbers}
+use Rattle.atom_table.specs.Numbering.{AreMembers, Numbers}
 use Rattle.std.specs.Prelude.{Option, None, Some, slice_get, position, IfSome}
 use Rattle.std.proofs.lemmas.List.Quantifiers.{position-Some}
-use Rattle.std.proofs.lemmas.Option.{slice_get-get_or}
+use Rattle.std.proofs.lemmas.Option.{get_or_from_slice_get, none-some, slice_get-get_or, slice_get_cases}
 use Rattle.meaning_atoms.specs.declared.atom.Atom.{Atom}
 use Rattle.meaning_atoms.specs.contracts.atom.AtomPartialEq.TheImpl.{eq-value as atom_eq}
 use Rattle.meaning_atoms.proofs.SameAtoms.{atom_decides}
@@ -37,3 +38,21 @@ numbered old new atom var stored keys = record {
   at = stored.1 ∙ ap (λ a. Some a) (sym ((atom_decides atom stored.0).0 stored.2));
   grown = grown old new atom (list_any (λ a. (atom_eq).it atom a) old) refl keys;
 }
+
+-- ---- variables of members
+
+found_before : (old more : List Atom) (atom : Atom) (var : ℕ) → slice_get old var ≡ Some atom
+    → slice_get (old ++ more) var ≡ Some atom
+found_before old more atom var at =
+    let short : var < length old
+    = ⊎_elim (λ found. found.1) (λ none. absurd (none-some atom (sym none.1 ∙ at))) (slice_get_cases old var).1 in
+    let long = length-append old more in
+    slice_get-get_or (old ++ more) var atom (omega (arith, short, long))
+    ∙ ap (λ a. Some a) (get_or_append_left old more atom var short ∙ get_or_from_slice_get old var atom atom at)
+
+-- the variables that are kept stay right when an atom comes
+pub members_kept : (old new : List Atom) (atom : Atom) (var : ℕ) (places : List (Option ℕ)) → Numbers old new atom var
+    → AreMembers old places → AreMembers new places
+members_kept old new atom var places numbers are a kept at =
+    ⊎_elim (λ same. rw same (are a kept at)) (λ more. rw more.1 (found_before old (atom ∷ []) _ kept (are a kept at)))
+    numbers.grown

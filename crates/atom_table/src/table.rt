@@ -1,6 +1,7 @@
 //! The table of atoms.
 
-ghost use Rattle.std.specs.Prelude.{◌≡◌, ◌<◌, [], length, slice_get, Contains, Some, IfOk, IfSome, IfNone, OnErr};
+ghost use Rattle.std.specs.Prelude.{◌≡◌, ◌⊎◌, ◌<◌, ℕ, [], length, slice_get, Contains, Some, IfOk, IfSome, IfNone, OnErr};
+ghost use Rattle.meaning_atoms.specs.declared.atom.Atom.TheVariants.{Member};
 ghost use Rattle.atom_table.specs.Numbering.{AreDifferent, Numbers};
 
 use indexmap::IndexSet;
@@ -12,6 +13,9 @@ use std::marker::Model;
 
 /// The fewest places for guesses.
 const FEWEST: usize = 64;
+
+/// How many places for arguments there are for each variable, at most.
+const APART: usize = 16;
 
 /// A number for two others, so that pairs with a number in common lie apart.
 fn mixed(first: u32, second: u32) -> u32 {
@@ -71,31 +75,82 @@ fn note(recent: &mut Vec<u32>, place: usize, var: usize) {
     }
 }
 
+/// The variable that is kept for an argument's being a member, if any.
+fn member_var(members: &[Option<u32>], argument: u32) -> Option<usize>
+    ensures { IfSome result (λ var. slice_get members.now argument ≡ Some (Some var)) }
+{
+    let index = argument as usize;
+    if index >= members.len() {
+        return None;
+    }
+    match members[index] {
+        Some(var) => Some(var as usize),
+        None => None,
+    }
+}
+
+/// Makes room for an argument's variable, where the arguments don't lie too far apart for so many variables and memory
+/// allows.
+fn make_room(members: &mut Vec<Option<u32>>, index: usize, vars: usize)
+    ensures { (a var : ℕ) → slice_get members.new.items a ≡ Some (Some var)
+        → slice_get members.old.items a ≡ Some (Some var) }
+{
+    if index < members.len() || index / APART >= vars.max(FEWEST) {
+        return;
+    }
+    let more = members.len().saturating_mul(2).max(index.saturating_add(1));
+    match members.resize(more, None) {
+        Ok(()) => {}
+        Err(_) => {}
+    }
+}
+
+/// Keeps the variable of an argument's being a member.
+fn note_member(members: &mut Vec<Option<u32>>, argument: u32, var: usize)
+    ensures { (a v : ℕ) → slice_get members.new.items a ≡ Some (Some v)
+        → (slice_get members.old.items a ≡ Some (Some v)) ⊎ ((a ≡ argument) × (v ≡ var)) }
+{
+    if var >= u32::MAX as usize {
+        return;
+    }
+    let index = argument as usize;
+    make_room(members, index, var);
+    if index < members.len() {
+        members[index] = Some(var as u32);
+    }
+}
+
 /// Atoms in the order in which they came, each once. An atom's variable is its index, so variables begin at 0 and none
 /// is left out. It keeps the allocator that it was made with. `recent` has at each place the variable of the last atom
-/// that has this place, as a guess that is compared before it is used: most looks then hash nothing.
+/// that has this place, as a guess that is compared before it is used: most looks then hash nothing. `members` has for
+/// arguments the variables of their being members, which need no comparison: most looks are for these.
 pub struct AtomTable {
     atoms: IndexSet<Atom>,
     recent: Vec<u32>,
+    members: Vec<Option<u32>>,
 }
 
 // By hand, so that a drop is one call (docs/PROVING.md).
 impl Drop for AtomTable {
     fn drop(self) {
-        let Self { atoms, recent } = self;
+        let Self {
+            atoms,
+            recent,
+            members,
+        } = self;
     }
 }
 
 impl Model for AtomTable {
     ghost use Rattle.std.specs.Prelude.{List};
     ghost use Rattle.meaning_atoms.specs.declared.atom.Atom.{Atom};
-    ghost use Rattle.atom_table.specs.Numbering.{AreDifferent};
+    ghost use Rattle.atom_table.specs.Numbering.{IsTable};
 
     ghost Value = { List Atom };
 
     ghost view = { λ t. t.atoms.keys };
 
-    ghost invariant = { λ t. AreDifferent t.atoms.keys };
+    ghost invariant = { λ t. IsTable t.atoms.keys t.members.items };
 }
 
 impl AtomTable {
@@ -106,12 +161,12 @@ impl AtomTable {
         AtomTable {
             atoms: IndexSet::new(alloc),
             recent: Vec::new(alloc),
+            members: Vec::new(alloc),
         }
     }
 
-    /// The variable of an atom, which is given one if it has none. Each atom keeps the variable that it has. After
-    /// `Memory` the table is as before.
-    pub fn var_of(&mut self, atom: &Atom) -> Result<usize, Memory>
+    /// The variable of an atom, which is looked for by a guess first.
+    fn guessed_var_of(&mut self, atom: &Atom) -> Result<usize, Memory>
         ensures ok { IfOk result (Numbers self.old self.new atom.now) }
         ensures err { OnErr result (self.new ≡ self.old) }
     {
@@ -122,6 +177,31 @@ impl AtomTable {
         let (var, _) = self.atoms.insert_full(*atom)?;
         note(&mut self.recent, place, var);
         Ok(var)
+    }
+
+    /// The variable of an argument's being a member.
+    fn var_of_member(&mut self, argument: u32) -> Result<usize, Memory>
+        ensures ok { IfOk result (Numbers self.old self.new (Member argument)) }
+        ensures err { OnErr result (self.new ≡ self.old) }
+    {
+        if let Some(known) = member_var(self.members.as_slice(), argument) {
+            return Ok(known);
+        }
+        let var = self.guessed_var_of(&Atom::Member(argument))?;
+        note_member(&mut self.members, argument, var);
+        Ok(var)
+    }
+
+    /// The variable of an atom, which is given one if it has none. Each atom keeps the variable that it has. After
+    /// `Memory` the table is as before.
+    pub fn var_of(&mut self, atom: &Atom) -> Result<usize, Memory>
+        ensures ok { IfOk result (Numbers self.old self.new atom.now) }
+        ensures err { OnErr result (self.new ≡ self.old) }
+    {
+        match *atom {
+            Atom::Member(argument) => self.var_of_member(argument),
+            _ => self.guessed_var_of(atom),
+        }
     }
 
     /// The atom of a variable.
