@@ -213,11 +213,11 @@ attack_members p held edit whole same is =
     whole.members_are ∙ (sym (members_stay (framework_of p.framework) edit is) ∙ ap set_literals.members (sym same))
 
 -- the parts where all axioms of the framework behind the edit wait
-pub all_waiting : (p : FrameworkSolver) (held : Held) (names : List AxiomName) (edit : Edit) → IsWhole p
-    → framework_of held ≡ after_edit (framework_of p.framework) edit
-    → p.members ≡ set_literals.members (framework_of held) → names ≡ []
-    → IsWhole (record p { framework = held; needed = names; taken = 0; is_listed = false })
-all_waiting p held names edit whole same members_are none =
+pub all_waiting : (p : FrameworkSolver) (held : Held) (numbers : List ℕ) (names : List AxiomName) (edit : Edit)
+    → IsWhole p → framework_of held ≡ after_edit (framework_of p.framework) edit
+    → numbers ≡ set_literals.members (framework_of held) → names ≡ []
+    → IsWhole (record p { framework = held; members = numbers; needed = names; taken = 0; is_listed = false })
+all_waiting p held numbers names edit whole same members_are none =
     let f = framework_of p.framework in
     record {
       numbered = subst IsNumbered (sym same) (edits_keep f (edit ∷ []) whole.numbered);
@@ -233,7 +233,25 @@ all_waiting p held names edit whole same members_are none =
       waits = λ is_listed. absurd (false≢true is_listed);
     }
 
+-- and where those that the log may lack are listed
+pub now_listed : (p : FrameworkSolver) (names : List AxiomName) → IsWhole p → p.taken ≡ 0
+    → AreNeededBy (framework_of p.framework) names → AreUsedOrWait (framework_of p.framework) p.solver.log names 0
+    → IsWhole (record p { needed = names; is_listed = true })
+now_listed p names whole none needed waits = record {
+  numbered = whole.numbered;
+  members_are = whole.members_are;
+  guarded = whole.guarded;
+  axioms = needed.only;
+  taken_few = omega (arith, none);
+  named = whole.named;
+  waits = λ is_listed. subst (AreUsedOrWait (framework_of p.framework) p.solver.log names) (sym none) waits;
+}
+
 -- ---- an update
+
+-- axioms spend none
+abbrev pub no_units : Units
+no_units = record { limit = 0; used = 0 }
 
 -- axioms that came behind the edit came to the log that there was
 pub gains_behind : (p b c : FrameworkSolver) → b.solver ≡ p.solver → c.framework ≡ b.framework

@@ -108,6 +108,7 @@ impl FrameworkSolver {
         ensures run { (units : Units) → HasRun NoSide 0 (framework_of self.old.framework) self.old.solver.log
             self.new.solver.log self.new.solver.pending units units (halt_of result) }
         ensures gains { GainsNeeded (framework_of self.old.framework) self.old.solver.log self.new.solver.log }
+        ensures pending { self.new.solver.pending ≡ self.old.solver.pending }
     {
         while self.taken < self.needed.len() {
             let name = self.needed.as_slice()[self.taken].copy(alloc)?;
@@ -138,7 +139,7 @@ impl FrameworkSolver {
     }
 
     /// Works out which axioms the framework needs, and puts them in force.
-    fn list_and_add(&mut self, alloc: Global) -> Result<(), Halt>
+    pub(crate) fn list_and_add(&mut self, alloc: Global) -> Result<(), Halt>
         requires whole { IsWhole self.old }
         ensures whole { IsWhole self.new }
         ensures in_force { OnOk result (AreInForce (framework_of self.new.framework) self.new.solver.log) }
@@ -146,6 +147,7 @@ impl FrameworkSolver {
         ensures run { (units : Units) → HasRun NoSide 0 (framework_of self.old.framework) self.old.solver.log
             self.new.solver.log self.new.solver.pending units units (halt_of result) }
         ensures gains { GainsNeeded (framework_of self.old.framework) self.old.solver.log self.new.solver.log }
+        ensures pending { self.new.solver.pending ≡ self.old.solver.pending }
     {
         self.list_needed(alloc)?;
         if self.solver.len() > 0 {

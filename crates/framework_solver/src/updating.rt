@@ -115,6 +115,67 @@ impl FrameworkSolver {
         self.is_listed && self.taken == self.needed.len()
     }
 
+    /// Changes the framework in place by an attack that comes or goes. Which axioms the edited framework needs isn't
+    /// worked out yet.
+    fn change_attack(&mut self, alloc: Global, effect: &Effect) -> Result<(), Memory>
+        requires whole { IsWhole self.old }
+        requires taken { IsTaken (framework_of self.old.framework) effect.now.edit effect.now }
+        requires attack { ChangesAttack effect.now.edit }
+        ensures whole { IsWhole self.new }
+        ensures framework { OnOk result (framework_of self.new.framework
+            ≡ after_edit (framework_of self.old.framework) effect.now.edit) }
+        ensures none_listed { OnOk result (self.new.taken ≡ 0) }
+        ensures solver { self.new.solver ≡ self.old.solver }
+        ensures err { OnErr result (self.new ≡ self.old) }
+    {
+        // No fault but want of memory is left, since the edit is taken.
+        match apply(alloc, &mut self.framework, &effect.edit) {
+            Ok(_) => {}
+            Err(_) => return Err(Memory),
+        }
+        self.needed = Items::new(alloc);
+        self.taken = 0;
+        self.is_listed = false;
+        Ok(())
+    }
+
+    /// Changes the framework by an edit that it takes, in a copy. Which axioms the edited framework needs isn't worked
+    /// out yet.
+    fn change_in_copy(&mut self, alloc: Global, effect: &Effect) -> Result<(), Memory>
+        requires whole { IsWhole self.old }
+        requires taken { IsTaken (framework_of self.old.framework) effect.now.edit effect.now }
+        ensures whole { IsWhole self.new }
+        ensures framework { OnOk result (framework_of self.new.framework
+            ≡ after_edit (framework_of self.old.framework) effect.now.edit) }
+        ensures solver { self.new.solver ≡ self.old.solver }
+        ensures err { OnErr result (self.new ≡ self.old) }
+    {
+        let framework = copy_edited(alloc, &self.framework, effect)?;
+        let members = members_of(alloc, &framework)?;
+        self.framework = framework;
+        self.members = members;
+        self.needed = Items::new(alloc);
+        self.taken = 0;
+        self.is_listed = false;
+        Ok(())
+    }
+
+    /// Changes the framework by an edit that it takes. Which axioms the edited framework needs isn't worked out yet.
+    fn change(&mut self, alloc: Global, effect: &Effect) -> Result<(), Memory>
+        requires whole { IsWhole self.old }
+        requires taken { IsTaken (framework_of self.old.framework) effect.now.edit effect.now }
+        ensures whole { IsWhole self.new }
+        ensures framework { OnOk result (framework_of self.new.framework
+            ≡ after_edit (framework_of self.old.framework) effect.now.edit) }
+        ensures solver { self.new.solver ≡ self.old.solver }
+        ensures err { OnErr result (self.new ≡ self.old) }
+    {
+        if changes_attack(&effect.edit) {
+            return self.change_attack(alloc, effect);
+        }
+        self.change_in_copy(alloc, effect)
+    }
+
     /// Changes the framework in place by an attack that comes or goes; the axioms that the log may lack wait then.
     /// Where memory is refused, either nothing has changed, or all axioms of the edited framework wait.
     fn follow_attack(&mut self, alloc: Global, effect: &Effect) -> Result<(), Memory>
@@ -130,14 +191,7 @@ impl FrameworkSolver {
             ≡ after_edit (framework_of self.old.framework) effect.now.edit) }
     {
         let had_all = self.has_all();
-        // No fault but want of memory is left, since the edit is taken.
-        match apply(alloc, &mut self.framework, &effect.edit) {
-            Ok(_) => {}
-            Err(_) => return Err(Memory),
-        }
-        self.needed = Items::new(alloc);
-        self.taken = 0;
-        self.is_listed = false;
+        self.change_attack(alloc, effect)?;
         let needed = lacking_axioms(alloc, &self.framework, effect, had_all)?;
         self.needed = needed;
         self.is_listed = true;
@@ -186,6 +240,28 @@ impl FrameworkSolver {
         self.follow_in_copy(alloc, effect)
     }
 
+    /// As `update`, but that all axioms which the edited framework needs are worked out: once, and without a look at
+    /// names where the log has no step.
+    fn update_anew(&mut self, alloc: Global, effect: &Effect) -> Result<(), UpdateStop>
+        requires whole { IsWhole self.old }
+        requires taken { IsTaken (framework_of self.old.framework) effect.now.edit effect.now }
+        ensures whole { IsWhole self.new }
+        ensures framework { result ≢ Err UpdateStop.Memory → framework_of self.new.framework
+            ≡ after_edit (framework_of self.old.framework) effect.now.edit }
+        ensures stays { (self.new ≡ self.old) ⊎ (framework_of self.new.framework
+            ≡ after_edit (framework_of self.old.framework) effect.now.edit) }
+        ensures in_force { OnOk result (AreInForce (framework_of self.new.framework) self.new.solver.log) }
+        ensures full { result ≡ Err UpdateStop.LogFull
+            → length self.new.solver.log.steps ≡ self.new.solver.log.limit }
+        ensures gains { GainsNeeded (framework_of self.new.framework) self.old.solver.log self.new.solver.log }
+        ensures pending { self.new.solver.pending ≡ self.old.solver.pending }
+    {
+        self.change(alloc, effect)?;
+        self.list_and_add(alloc)?;
+        self.forget_taken(alloc);
+        Ok(())
+    }
+
     /// Changes the framework by an edit that it takes, and puts the axioms that it needs then in force.
     pub fn update(&mut self, alloc: Global, effect: &Effect) -> Result<(), UpdateStop>
         requires whole { IsWhole self.old }
@@ -201,6 +277,9 @@ impl FrameworkSolver {
         ensures gains { GainsNeeded (framework_of self.new.framework) self.old.solver.log self.new.solver.log }
         ensures pending { self.new.solver.pending ≡ self.old.solver.pending }
     {
+        if self.solver.len() == 0 {
+            return self.update_anew(alloc, effect);
+        }
         self.follow(alloc, effect)?;
         self.add_missing(alloc)?;
         self.forget_taken(alloc);

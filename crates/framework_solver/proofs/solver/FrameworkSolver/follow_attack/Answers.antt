@@ -1,50 +1,26 @@
-use Rattle.std.proofs.Common.{inr}
+use Rattle.std.proofs.Common.{sym, subst}
 use Rattle.edit_rules.specs.Kinds.{framework_of}
-use Rattle.framework_solver.proofs.UpdateLemmas.{all_waiting, attack_members, behind, effect_of, followed, left_as}
+use Rattle.atom_solver.specs.States.{AtomState}
+use Rattle.framework_solver.specs.Solvers.{AreUsedOrWait}
+use Rattle.framework_solver.proofs.UpdateLemmas.{behind, effect_of, now_listed}
 use Rattle.framework_solver.proofs.solver.FrameworkSolver.follow_attack.Goals as goal
 
 pub lacking_axioms-requires : goal.lacking_axioms-requires
 lacking_axioms-requires c =
-    let p = c.args.self.now in
-    let same = left_as (framework_of p.framework) (framework_of c.apply.new.framework) c.args.effect.now.edit _
-    c.in-Ok.ensures.done in
-    behind p (framework_of c.apply.new.framework) c.args.effect.now c.requires.whole c.requires.taken same
-
-pub returns-in_err-needed-clause-whole : goal.returns-in_err-needed-clause-whole
-returns-in_err-needed-clause-whole c =
-    let p = c.args.self.now in
-    let same = left_as (framework_of p.framework) (framework_of c.apply.new.framework) c.args.effect.now.edit _
-    c.in-Ok.ensures.done in
-    all_waiting p c.apply.new.framework _ c.args.effect.now.edit c.requires.whole same
-    (attack_members p c.apply.new.framework c.args.effect.now.edit c.requires.whole same c.requires.attack)
-    c.new.ensures
-
-pub returns-in_err-needed-clause-stays : goal.returns-in_err-needed-clause-stays
-returns-in_err-needed-clause-stays c =
-    let p = c.args.self.now in
-    inr (left_as (framework_of p.framework) (framework_of c.apply.new.framework) c.args.effect.now.edit _
-    c.in-Ok.ensures.done)
+    behind c.args.self.now (framework_of c.change_attack.new.self.framework) c.args.effect.now c.requires.whole
+    c.requires.taken
+    c.in_ok-change_attack.ensures.framework
 
 pub returns-clause-whole : goal.returns-clause-whole
 returns-clause-whole c =
     let p = c.args.self.now in
+    let changed = c.change_attack.new.self in
     let f = framework_of p.framework in
-    let same = left_as f (framework_of c.apply.new.framework) c.args.effect.now.edit _ c.in-Ok.ensures.done in
-    followed p c.apply.new.framework p.members c.in_ok-needed.needed c.args.effect.now.edit c.requires.whole same
-    (attack_members p c.apply.new.framework c.args.effect.now.edit c.requires.whole same c.requires.attack)
+    let g = framework_of changed.framework in
+    let names = c.in_ok-needed.needed in
+    now_listed changed names c.in_ok-change_attack.ensures.whole c.in_ok-change_attack.ensures.none_listed
     c.in_ok-needed.ensures.needed
+    (subst (λ (s : AtomState). AreUsedOrWait g s.log names 0) (sym c.in_ok-change_attack.ensures.solver)
     (c.in_ok-needed.ensures.waits f p.solver.log c.requires.whole.numbered
-    (effect_of f (framework_of c.apply.new.framework) c.args.effect.now c.requires.taken same)
-    c.has_all-had_all.ensures)
-
-pub returns-clause-framework : goal.returns-clause-framework
-returns-clause-framework c =
-    let p = c.args.self.now in
-    left_as (framework_of p.framework) (framework_of c.apply.new.framework) c.args.effect.now.edit _
-    c.in-Ok.ensures.done
-
-pub returns-clause-stays : goal.returns-clause-stays
-returns-clause-stays c =
-    let p = c.args.self.now in
-    inr (left_as (framework_of p.framework) (framework_of c.apply.new.framework) c.args.effect.now.edit _
-    c.in-Ok.ensures.done)
+    (effect_of f g c.args.effect.now c.requires.taken c.in_ok-change_attack.ensures.framework)
+    c.has_all-had_all.ensures))

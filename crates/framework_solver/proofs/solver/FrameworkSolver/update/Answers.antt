@@ -1,10 +1,6 @@
-use Rattle.plain_lits.specs.Units.{Units}
 use Rattle.edit_rules.specs.Kinds.{framework_of}
-use Rattle.framework_solver.proofs.UpdateLemmas.{gains_behind, stopped_full}
+use Rattle.framework_solver.proofs.UpdateLemmas.{gains_behind, no_units, stopped_full}
 use Rattle.framework_solver.proofs.solver.FrameworkSolver.update.Goals as goal
-
-abbrev no_units : Units
-no_units = record { limit = 0; used = 0 }
 
 pub returns-in_err-add_missing-clause-full : goal.returns-in_err-add_missing-clause-full
 returns-in_err-add_missing-clause-full c =
