@@ -702,6 +702,7 @@ impl Cdcl {
         ensures limit { budget.new.limit ≡ budget.old.limit }
     {
         self.pending = None;
+        self.tired = 0;
         let vars = self.decisions.search.vars();
         self.decisions.order.make_room(vars)?;
         let size = size_of_front(self.front.as_slice(), assumptions);
