@@ -13,12 +13,14 @@ use Rattle.script_text.specs.declared.edit_word.EditWord.{EditWord}
 use Rattle.script_text.specs.declared.fault.ScriptCause.{ScriptCause}
 use Rattle.script_text.specs.declared.fault.ScriptCause.TheVariants.{BadSession, BadCommand, BadTask, BadNumber}
 use Rattle.script_text.specs.declared.fault.ScriptCause.TheVariants.{BadQuery, EmptyGroup, GroupTooLong, OpenGroup}
+use Rattle.script_text.specs.declared.fault.ScriptCause.TheVariants.{BadFramework}
 use Rattle.script_text.specs.Changes.{change_name, Takes}
 use Rattle.script_text.specs.ScriptFaults.{rank, asks_about, IsFirstCause, HaveAskForm, HaveChangeForm, HaveForm, HaveMarkForm}
-use Rattle.script_text.specs.ScriptFaults.{HaveNoNumber, HaveUnknownTask, HaveUnfitTask, StandsOnCommand}
+use Rattle.script_text.specs.ScriptFaults.{HaveNoNumber, HaveUnknownTask, HaveUnfitTask, HaveUseForm, StandsOnCommand}
 use Rattle.script_text.specs.ScriptText.{asked_numbers}
 use Rattle.script_text.proofs.Names.{ask_is_no_change, begin_is_no_ask, begin_is_no_change, changes_same}
 use Rattle.script_text.proofs.Names.{end_is_no_ask, end_is_no_change, tasks_same}
+use Rattle.script_text.proofs.Names.{use_is_no_ask, use_is_no_begin, use_is_no_change, use_is_no_end}
 
 -- ---- fields
 
@@ -52,6 +54,23 @@ marks_no_change fields mark form =
 marks_no_ask : (fields : List (List ℕ)) → HaveMarkForm fields → HaveAskForm fields → ⊥
 marks_no_ask fields mark form =
     ask_no_mark (form.task ∷ form.arguments) (subst HaveMarkForm form.fields_are mark)
+
+-- neither is `use`
+pub change_no_use : (fields : List (List ℕ)) → HaveUseForm fields → HaveChangeForm fields → ⊥
+change_no_use fields one form = use_is_no_change form.change
+    (first_same (change_name form.change) (codes "use") form.arguments one.arguments
+    (sym form.fields_are ∙ one.fields_are))
+
+ask_no_use : (fields : List (List ℕ)) → HaveUseForm fields → HaveAskForm fields → ⊥
+ask_no_use fields one form = use_is_no_ask
+    (first_same (codes "ask") (codes "use") (form.task ∷ form.arguments) one.arguments
+    (sym form.fields_are ∙ one.fields_are))
+
+pub mark_no_use : (fields : List (List ℕ)) → HaveUseForm fields → HaveMarkForm fields → ⊥
+mark_no_use fields one (inl e) =
+    use_is_no_begin (first_same (codes "begin") (codes "use") [] one.arguments (sym e ∙ one.fields_are))
+mark_no_use fields one (inr e) =
+    use_is_no_end (first_same (codes "end") (codes "use") [] one.arguments (sym e ∙ one.fields_are))
 
 -- the arguments of the one form
 ask_arguments : (task : List ℕ) (arguments : List (List ℕ)) (form : HaveAskForm (codes "ask" ∷ task ∷ arguments))
@@ -104,6 +123,7 @@ from_command fields BadQuery stands = omega arith
 from_command fields OpenGroup stands = absurd stands
 from_command fields GroupTooLong stands = absurd stands
 from_command fields EmptyGroup stands = absurd stands
+from_command fields BadFramework stands = absurd stands
 
 -- where the fields have a form, it isn't BadCommand either
 from_task : (fields : List (List ℕ)) → HaveForm fields → (other : ScriptCause)
@@ -116,6 +136,7 @@ from_task fields form BadQuery stands = omega arith
 from_task fields form OpenGroup stands = absurd stands
 from_task fields form GroupTooLong stands = absurd stands
 from_task fields form EmptyGroup stands = absurd stands
+from_task fields form BadFramework stands = absurd stands
 
 -- where no unknown task is asked, it isn't BadTask either
 from_number : (fields : List (List ℕ)) → HaveForm fields → (HaveUnknownTask fields → ⊥)
@@ -128,6 +149,7 @@ from_number fields form known BadQuery stands = omega arith
 from_number fields form known OpenGroup stands = absurd stands
 from_number fields form known GroupTooLong stands = absurd stands
 from_number fields form known EmptyGroup stands = absurd stands
+from_number fields form known BadFramework stands = absurd stands
 
 -- where all numbers are spelled, it can only be BadQuery
 from_query : (fields : List (List ℕ)) → HaveForm fields → (HaveUnknownTask fields → ⊥)
@@ -141,16 +163,18 @@ from_query fields form known spelled BadQuery stands = (stands, omega arith)
 from_query fields form known spelled OpenGroup stands = absurd stands
 from_query fields form known spelled GroupTooLong stands = absurd stands
 from_query fields form known spelled EmptyGroup stands = absurd stands
+from_query fields form known spelled BadFramework stands = absurd stands
 
 -- ---- the causes
 
 pub bad_command : (fields : List (List ℕ)) → (HaveChangeForm fields → ⊥) → (HaveAskForm fields → ⊥)
-    → (HaveMarkForm fields → ⊥) → IsFirstCause (StandsOnCommand fields) BadCommand
-bad_command fields change ask mark = record {
+    → (HaveMarkForm fields → ⊥) → (HaveUseForm fields → ⊥) → IsFirstCause (StandsOnCommand fields) BadCommand
+bad_command fields change ask mark use_not = record {
   stands = λ form. elim form [
     | inl f ↦ change f
     | inr (inl f) ↦ ask f
-    | inr (inr f) ↦ mark f
+    | inr (inr (inl f)) ↦ mark f
+    | inr (inr (inr f)) ↦ use_not f
   ];
   first = from_command fields;
 }
@@ -167,6 +191,8 @@ bad_change change arguments takes_not = bad_command (change_name change ∷ argu
     (λ form. ask_is_no_change change
     (first_same (change_name change) (codes "ask") arguments (form.task ∷ form.arguments) form.fields_are))
     (change_no_mark change arguments)
+    (λ form. use_is_no_change change
+    (first_same (change_name change) (codes "use") arguments form.arguments form.fields_are))
 
 pub bad_change_number : (change : EditWord) (arguments : List (List ℕ)) → Takes change (length arguments)
     → HaveNoNumber arguments → IsFirstCause (StandsOnCommand (change_name change ∷ arguments)) BadNumber
@@ -195,6 +221,7 @@ ask_too_long task arguments long = bad_command (ask_fields task arguments)
     (first_same (change_name form.change) (codes "ask") form.arguments (task ∷ arguments) (sym form.fields_are)))
     (λ form. let few = subst (λ xs. length xs ≤ 1) (ask_arguments task arguments form) form.few in absurd (omega arith))
     (ask_no_mark (task ∷ arguments))
+    (λ form. use_is_no_ask (first_same (codes "ask") (codes "use") (task ∷ arguments) form.arguments form.fields_are))
 
 pub ask_alone : IsFirstCause (StandsOnCommand (codes "ask" ∷ [])) BadCommand
 ask_alone = bad_command (codes "ask" ∷ [])
@@ -203,6 +230,7 @@ ask_alone = bad_command (codes "ask" ∷ [])
     (λ form. let long : 1 ≡ length (codes "ask" ∷ form.task ∷ form.arguments) = ap length form.fields_are in
     absurd (omega arith))
     (ask_no_mark [])
+    (λ form. use_is_no_ask (first_same (codes "ask") (codes "use") [] form.arguments form.fields_are))
 
 pub bad_task : (task : List ℕ) (arguments : List (List ℕ)) → length arguments ≤ 1
     → ((t : Task) → IsTask t → ¬ (task_name t ≡ task))
@@ -224,7 +252,7 @@ pub bad_ask_number : (task : List ℕ) (arguments : List (List ℕ)) (t : Task) 
 bad_ask_number task arguments t few is named none =
     let form = ask_form task arguments few in
     record {
-      stands = inr (form, none);
+      stands = inr (inl (form, none));
       first = from_number (ask_fields task arguments) (inr (inl form)) (known_task task arguments t is named);
     }
 
@@ -266,8 +294,10 @@ ask_spelled : (task : List ℕ) (arguments : List (List ℕ)) (numbers : List �
     → StandsOnCommand (codes "ask" ∷ task ∷ arguments) BadNumber → ⊥
 ask_spelled task arguments numbers spelled (inl (form, none)) = ask_is_no_change form.change
     (first_same (change_name form.change) (codes "ask") form.arguments (task ∷ arguments) (sym form.fields_are))
-ask_spelled task arguments numbers spelled (inr (form, none)) = none_missing arguments numbers spelled
+ask_spelled task arguments numbers spelled (inr (inl (form, none))) = none_missing arguments numbers spelled
     (subst HaveNoNumber (ask_arguments task arguments form) none)
+ask_spelled task arguments numbers spelled (inr (inr (form, none))) = use_is_no_ask
+    (first_same (codes "ask") (codes "use") (task ∷ arguments) form.arguments form.fields_are)
 
 pub bad_query : (task : List ℕ) (arguments : List (List ℕ)) (t : Task) (number : Option ℕ) → length arguments ≤ 1
     → IsTask t → task_name t ≡ task → AllZip IsNumber arguments (asked_numbers number)
@@ -304,7 +334,8 @@ change_is_good change arguments numbers takes spelled cause stands =
         → StandsOnCommand (change_name change ∷ arguments) BadNumber → ⊥
     numbers_stand fields form (inl (other, none)) = none_missing arguments numbers spelled
         (subst HaveNoNumber (change_arguments change arguments other) none)
-    numbers_stand fields form (inr (other, none)) = forms_differ (change_name change ∷ arguments) form other
+    numbers_stand fields form (inr (inl (other, none))) = forms_differ (change_name change ∷ arguments) form other
+    numbers_stand fields form (inr (inr (other, none))) = change_no_use (change_name change ∷ arguments) other form
 
 pub ask_is_good : (task : List ℕ) (arguments : List (List ℕ)) (t : Task) (number : Option ℕ) → IsTask t
     → task_name t ≡ task → AllZip IsNumber arguments (asked_numbers number) → FitsTask t.problem number
@@ -329,14 +360,16 @@ ask_is_good task arguments t number is named spelled fits cause stands =
 pub mark_is_good : (fields : List (List ℕ)) → HaveMarkForm fields → (cause : ScriptCause)
     → StandsOnCommand fields cause → ⊥
 mark_is_good fields mark BadSession stands = stands
-mark_is_good fields mark BadCommand stands = stands (inr (inr mark))
+mark_is_good fields mark BadCommand stands = stands (inr (inr (inl mark)))
 mark_is_good fields mark BadTask stands = marks_no_ask fields mark stands.form
 mark_is_good fields mark BadNumber (inl h) = marks_no_change fields mark h.0
-mark_is_good fields mark BadNumber (inr h) = marks_no_ask fields mark h.0
+mark_is_good fields mark BadNumber (inr (inl h)) = marks_no_ask fields mark h.0
+mark_is_good fields mark BadNumber (inr (inr h)) = mark_no_use fields h.0 mark
 mark_is_good fields mark BadQuery stands = marks_no_ask fields mark stands.form
 mark_is_good fields mark OpenGroup stands = stands
 mark_is_good fields mark GroupTooLong stands = stands
 mark_is_good fields mark EmptyGroup stands = stands
+mark_is_good fields mark BadFramework stands = stands
 
 pub bad_begin : (argument : List ℕ) (more : List (List ℕ))
     → IsFirstCause (StandsOnCommand (codes "begin" ∷ argument ∷ more)) BadCommand
@@ -346,6 +379,8 @@ bad_begin argument more = bad_command (codes "begin" ∷ argument ∷ more)
     (λ form. begin_is_no_ask
     (first_same (codes "ask") (codes "begin") (form.task ∷ form.arguments) (argument ∷ more) (sym form.fields_are)))
     (too_long argument more)
+    (λ form. use_is_no_begin
+    (first_same (codes "begin") (codes "use") (argument ∷ more) form.arguments form.fields_are))
   where
     too_long : (argument : List ℕ) (more : List (List ℕ)) → HaveMarkForm (codes "begin" ∷ argument ∷ more) → ⊥
     too_long argument more (inl e) = let long = ap length e in absurd (omega (arith, long))
@@ -359,7 +394,59 @@ bad_end argument more = bad_command (codes "end" ∷ argument ∷ more)
     (λ form. end_is_no_ask
     (first_same (codes "ask") (codes "end") (form.task ∷ form.arguments) (argument ∷ more) (sym form.fields_are)))
     (too_long argument more)
+    (λ form. use_is_no_end
+    (first_same (codes "end") (codes "use") (argument ∷ more) form.arguments form.fields_are))
   where
     too_long : (argument : List ℕ) (more : List (List ℕ)) → HaveMarkForm (codes "end" ∷ argument ∷ more) → ⊥
     too_long argument more (inl e) = let long = ap length e in absurd (omega (arith, long))
     too_long argument more (inr e) = let long = ap length e in absurd (omega (arith, long))
+
+-- ---- which framework
+
+use_arguments : (arguments : List (List ℕ)) (form : HaveUseForm (codes "use" ∷ arguments)) → form.arguments ≡ arguments
+use_arguments arguments form =
+    sym (others_same (codes "use") (codes "use") arguments form.arguments form.fields_are)
+
+abbrev use_form : (arguments : List (List ℕ)) → length arguments ≡ 1 → HaveUseForm (codes "use" ∷ arguments)
+use_form arguments one = record { arguments = arguments; fields_are = refl; one = one }
+
+-- no unknown task is asked
+use_known : (fields : List (List ℕ)) → HaveUseForm fields → HaveUnknownTask fields → ⊥
+use_known fields one h = ask_no_use fields one h.form
+
+pub bad_use : (arguments : List (List ℕ)) → (length arguments ≡ 1 → ⊥)
+    → IsFirstCause (StandsOnCommand (codes "use" ∷ arguments)) BadCommand
+bad_use arguments many = bad_command (codes "use" ∷ arguments)
+    (λ form. use_is_no_change form.change
+    (first_same (change_name form.change) (codes "use") form.arguments arguments (sym form.fields_are)))
+    (λ form. use_is_no_ask
+    (first_same (codes "ask") (codes "use") (form.task ∷ form.arguments) arguments (sym form.fields_are)))
+    (no_mark arguments)
+    (λ form. many (subst (λ xs. length xs ≡ 1) (use_arguments arguments form) form.one))
+  where
+    no_mark : (arguments : List (List ℕ)) → HaveMarkForm (codes "use" ∷ arguments) → ⊥
+    no_mark arguments (inl e) = use_is_no_begin (sym (first_same (codes "use") (codes "begin") arguments [] e))
+    no_mark arguments (inr e) = use_is_no_end (sym (first_same (codes "use") (codes "end") arguments [] e))
+
+pub bad_use_number : (arguments : List (List ℕ)) → length arguments ≡ 1 → HaveNoNumber arguments
+    → IsFirstCause (StandsOnCommand (codes "use" ∷ arguments)) BadNumber
+bad_use_number arguments one none =
+    let form = use_form arguments one in
+    record {
+      stands = inr (inr (form, none));
+      first = from_number (codes "use" ∷ arguments) (inr (inr (inr form))) (use_known (codes "use" ∷ arguments) form);
+    }
+
+pub use_is_good : (arguments : List (List ℕ)) (numbers : List ℕ) → length arguments ≡ 1
+    → AllZip IsNumber arguments numbers → (cause : ScriptCause) → StandsOnCommand (codes "use" ∷ arguments) cause → ⊥
+use_is_good arguments numbers one spelled cause stands =
+    let fields : List (List ℕ) = codes "use" ∷ arguments in
+    let form = use_form arguments one in
+    let unfit = (from_query fields (inr (inr (inr form))) (use_known fields form) numbers_stand cause stands).0 in
+    ask_no_use fields form unfit.form
+  where
+    numbers_stand : StandsOnCommand (codes "use" ∷ arguments) BadNumber → ⊥
+    numbers_stand (inl (other, none)) = change_no_use (codes "use" ∷ arguments) (use_form arguments one) other
+    numbers_stand (inr (inl (other, none))) = ask_no_use (codes "use" ∷ arguments) (use_form arguments one) other
+    numbers_stand (inr (inr (other, none))) = none_missing arguments numbers spelled
+        (subst HaveNoNumber (use_arguments arguments other) none)

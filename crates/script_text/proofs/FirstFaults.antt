@@ -1,7 +1,7 @@
 -- From the first bad line, or the group that is left open, to the first fault of the text; a script has no fault.
 use Rattle.std.proofs.Common.{◌≡◌, ℕ, ◌+◌, ◌<◌, ◌≤◌, not, List, [], ◌∷◌, ◌++◌, length, get_or}
 use Rattle.std.proofs.Common.{refl, sym, ap, subst, ◌∙◌, ◌⊎◌, inl, inr, arith}
-use Rattle.std.specs.Prelude.{All, AllPairs, Option, Some, None}
+use Rattle.std.specs.Prelude.{All, AllPairs}
 use Rattle.std.proofs.lemmas.List.{length-append}
 use Rattle.std.proofs.lemmas.List.Elements.{All-filter}
 use Rattle.std.proofs.Math.Seq.{get_or-append_seam}
@@ -14,17 +14,19 @@ use Rattle.script_text.specs.declared.fault.ScriptCause.{ScriptCause}
 use Rattle.script_text.specs.declared.fault.ScriptCause.TheVariants.{OpenGroup}
 use Rattle.script_text.specs.declared.fault.ScriptFault.{ScriptFault}
 use Rattle.script_text.specs.declared.fault.ScriptFault.TheVariants.{At, Memory}
+use Rattle.script_text.specs.declared.open_groups.Place.TheVariants.{Inside}
 use Rattle.script_text.specs.declared.script.Script.{Script}
-use Rattle.script_text.specs.declared.script.ScriptLine.{ScriptLine}
 use Rattle.script_text.specs.declared.text_line.TextLine.{TextLine}
 use Rattle.script_text.specs.Groups.{FitGroups, Groups, after_line, after_lines, no_groups}
 use Rattle.script_text.specs.ScriptFaults.{rank, IsFaultless, IsFirstFault, IsToldOf, StandsAt}
-use Rattle.script_text.specs.ScriptFaults.{StandsBehind, StandsByGroup, StandsOn}
+use Rattle.script_text.specs.ScriptFaults.{StandsAmong, StandsBehind, StandsByGroup, StandsThere}
 use Rattle.script_text.specs.ScriptText.{AreTextLines, IsScript, IsTextLine}
-use Rattle.script_text.specs.Steps.{AreRead, BreaksAt, FitsIn, IsFirstBadLine}
+use Rattle.script_text.specs.Steps.{AreRead, BreaksAt, FitsIn, IsFirstBadLine, StandsIn}
+use Rattle.script_text.specs.Uses.{AreAmong, used_at, uses_of}
 use Rattle.script_text.proofs.GroupCauses.{fitting_is_good}
 use Rattle.script_text.proofs.LineCauses.{line_is_good}
 use Rattle.script_text.proofs.OneScript.{line_same, lines_same}
+use Rattle.script_text.proofs.UseLemmas.{first_among, is_no_stray, others_among}
 
 -- ---- lines of a script
 
@@ -49,43 +51,57 @@ fits_there (b ∷ before) line behind (a ∷ more) (r ∷ read) groups are fit t
     fits_there before line behind more read (after_line r groups) are.1
     (subst (λ l. FitGroups (after_line l groups) more) (line_same b.text a r are.0 those.0) fit.1) those.1
 
+-- its framework is there
+among_there : (frameworks : ℕ) (before : List LineText) (line : LineText) (behind : List LineText) (all : List TextLine)
+    → AreTextLines (before ++ line ∷ behind) all → AreAmong frameworks (uses_of all)
+    → (told : TextLine) × IsTextLine line.text told × AreAmong frameworks (used_at told)
+among_there frameworks [] line behind [] are among = absurd are
+among_there frameworks [] line behind (a ∷ more) are among =
+    (a, are.0, first_among frameworks (used_at a) (uses_of more) among)
+among_there frameworks (b ∷ before) line behind [] are among = absurd are
+among_there frameworks (b ∷ before) line behind (a ∷ more) are among =
+    among_there frameworks before line behind more are.1 (others_among frameworks (used_at a) (uses_of more) among)
+
 -- no cause stands at lines that fit
-none_stands : (lines : List LineText) (all : List TextLine) (number : ℕ) (cause : ScriptCause) → AreTextLines lines all
-    → FitGroups no_groups all → StandsAt lines number cause → ⊥
-none_stands lines all number cause are fit s =
+none_stands : (frameworks : ℕ) (lines : List LineText) (all : List TextLine) (number : ℕ) (cause : ScriptCause)
+    → AreTextLines lines all → FitGroups no_groups all → AreAmong frameworks (uses_of all)
+    → StandsAt frameworks lines number cause → ⊥
+none_stands frameworks lines all number cause are fit among s =
     let these = subst (λ ls. AreTextLines ls all) s.lines_are are in
     elim s.stands [
       | inl on ↦
           let told = told_there s.before s.line s.behind all these in
           line_is_good s.line.text told.0 told.1 cause on
-      | inr by ↦
+      | inr (inl by) ↦
           let told = fits_there s.before s.line s.behind all by.read no_groups these fit by.are_lines in
           fitting_is_good (after_lines by.read no_groups) s.line.text told.0 told.1 told.2 cause by.stands
+      | inr (inr stray) ↦
+          let told = among_there frameworks s.before s.line s.behind all these among in
+          is_no_stray frameworks s.line.text told.0 told.1 told.2 stray.1
     ]
 
-none_some : (edits : List Edit) → None ≡ Some edits → ⊥
-none_some edits e = cc
-
-pub script_is_faultless : (bytes : List ℕ) (script : Script) → IsScript bytes script → IsFaultless bytes
-script_is_faultless bytes script h = record {
+pub script_is_faultless : (frameworks : ℕ) (bytes : List ℕ) (script : Script) → IsScript frameworks bytes script
+    → IsFaultless frameworks bytes
+script_is_faultless frameworks bytes script h = record {
   none = λ number cause stands. elim stands [
-    | inl at ↦ none_stands (kept_lines bytes) h.lines number cause h.are_lines h.fit at
+    | inl at ↦ none_stands frameworks (kept_lines bytes) h.lines number cause h.are_lines h.fit
+        (subst (AreAmong frameworks) h.uses h.among) at
     | inr last ↦
         let left = last.1 in
         let read = lines_same (kept_lines bytes) h.lines left.read h.are_lines left.are_lines in
-        none_some left.edits (sym (h.closed left.session)
-        ∙ ap (λ lines. after_lines lines no_groups left.session) read ∙ left.left)
+        h.closed left.session left.edits
+        (ap (λ lines. after_lines lines no_groups left.session) read ∙ left.left)
   ];
 }
 
 -- ---- the first bad line
 
 -- the line at the one place stands before, at or behind that at the other
-record IsBefore (xs : List LineText) (x : LineText) (ys : List LineText) : Type 0 where
+pub record IsBefore (xs : List LineText) (x : LineText) (ys : List LineText) : Type 0 where
   pub between : List LineText
   pub list_is : ys ≡ xs ++ x ∷ between
 
-record IsSame (xs ys : List LineText) (x y : LineText) : Type 0 where
+pub record IsSame (xs ys : List LineText) (x y : LineText) : Type 0 where
   pub lists : xs ≡ ys
   pub lines : x ≡ y
 
@@ -95,7 +111,7 @@ first_line_same x y xs ys e = ap (λ ls. get_or ls 0 x) e
 other_lines_same : (x y : LineText) (xs ys : List LineText) → x ∷ xs ≡ y ∷ ys → xs ≡ ys
 other_lines_same x y xs ys e = cc
 
-places : (xs ys : List LineText) (x y : LineText) (us vs : List LineText) → xs ++ x ∷ us ≡ ys ++ y ∷ vs
+pub places : (xs ys : List LineText) (x y : LineText) (us vs : List LineText) → xs ++ x ∷ us ≡ ys ++ y ∷ vs
     → IsBefore xs x ys ⊎ (IsSame xs ys x y ⊎ IsBefore ys y xs)
 places [] [] x y us vs e = inr (inl (record { lists = refl; lines = first_line_same x y us vs e }))
 places [] (b ∷ ys) x y us vs e = inl (record {
@@ -124,7 +140,7 @@ places (a ∷ xs) (b ∷ ys) x y us vs e =
     ]
 
 -- a line behind another has a higher number
-numbers_differ : (lines xs us ys vs : List LineText) (x y : LineText) → AllPairs (λ l m. l.number < m.number) lines
+pub numbers_differ : (lines xs us ys vs : List LineText) (x y : LineText) → AllPairs (λ l m. l.number < m.number) lines
     → lines ≡ xs ++ x ∷ us → lines ≡ ys ++ y ∷ vs → IsBefore xs x ys → x.number < y.number
 numbers_differ lines xs us ys vs x y rise e f p =
     let here : get_or lines (length xs) x ≡ x = ap (λ ls. get_or ls (length xs) x) e ∙ get_or-append_seam xs x us x in
@@ -141,7 +157,7 @@ numbers_within bytes = All-filter (λ line. not (are_skipped (field_texts line.t
     (λ l. l.number ≤ length (lines_of bytes)) (lines_of bytes)
     (λ k d within. let e = numbers-lines_of bytes k d within in omega (arith, e))
 
-number_within : (bytes : List ℕ) (before : List LineText) (line : LineText) (behind : List LineText)
+pub number_within : (bytes : List ℕ) (before : List LineText) (line : LineText) (behind : List LineText)
     → kept_lines bytes ≡ before ++ line ∷ behind → line.number ≤ length (lines_of bytes)
 number_within bytes before line behind e =
     let all = ap length e ∙ length-append before (line ∷ behind) in
@@ -149,29 +165,42 @@ number_within bytes before line behind e =
     subst (λ l. l.number ≤ length (lines_of bytes)) there
     (numbers_within bytes (length before) line (omega (arith, all)))
 
--- what stands behind lines that were read stands by their groups
-behind_read : (before : List LineText) (fields : List (List ℕ)) (cause : ScriptCause) (groups : Groups)
-    (script : List ScriptLine) → AreRead before groups script → StandsBehind before fields cause
+-- what stands behind lines that were read stands by where they leave the sessions
+behind_read : (frameworks : ℕ) (before : List LineText) (fields : List (List ℕ)) (cause : ScriptCause)
+    (groups : Groups) (script : Script) → AreRead frameworks before groups script → StandsBehind before fields cause
     → StandsByGroup groups fields cause
-behind_read before fields cause groups script r s =
+behind_read frameworks before fields cause groups script r s =
     let read = lines_same before s.read r.read s.are_lines r.are_lines in
     let left : after_lines s.read no_groups ≡ groups = ap (λ ls. after_lines ls no_groups) read ∙ sym r.groups_are in
     subst (λ g. StandsByGroup g fields cause) left s.stands
 
-stands_here : (groups : Groups) (script : List ScriptLine) (before xs : List LineText) (x line : LineText)
-    (c : ScriptCause) → AreRead before groups script → IsSame xs before x line
-    → StandsOn (field_texts x.text) c ⊎ StandsBehind xs (field_texts x.text) c
-    → StandsOn (field_texts line.text) c ⊎ StandsByGroup groups (field_texts line.text) c
-stands_here groups script before xs x line c r p (inl on) =
-    inl (subst (λ l. StandsOn (field_texts l.text) c) p.lines on)
-stands_here groups script before xs x line c r p (inr by) =
-    let behind = subst (λ ls. StandsBehind ls (field_texts x.text) c) p.lists by in
-    inr (behind_read before (field_texts line.text) c groups script r
-    (subst (λ l. StandsBehind before (field_texts l.text) c) p.lines behind))
+stands_here : (frameworks : ℕ) (groups : Groups) (script : Script) (before xs : List LineText) (x line : LineText)
+    (c : ScriptCause) → AreRead frameworks before groups script → IsSame xs before x line
+    → StandsThere frameworks xs (field_texts x.text) c → StandsIn frameworks groups (field_texts line.text) c
+stands_here frameworks groups script before xs x line c r p stands =
+    at (subst (λ l. StandsThere frameworks before (field_texts l.text) c) p.lines
+    (subst (λ ls. StandsThere frameworks ls (field_texts x.text) c) p.lists stands))
+  where
+    at : StandsThere frameworks before (field_texts line.text) c
+        → StandsIn frameworks groups (field_texts line.text) c
+    at (inl on) = inl on
+    at (inr (inl by)) = inr (inl (behind_read frameworks before (field_texts line.text) c groups script r by))
+    at (inr (inr among)) = inr (inr among)
 
-bad_line_told : (bytes : List ℕ) (number : ℕ) (cause : ScriptCause) → IsFirstBadLine (kept_lines bytes) number cause
-    → IsFirstFault bytes number cause
-bad_line_told bytes number cause b =
+stands_behind : (frameworks : ℕ) (groups : Groups) (script : Script) (before : List LineText)
+    (fields : List (List ℕ)) (c : ScriptCause) → AreRead frameworks before groups script
+    → StandsIn frameworks groups fields c → StandsThere frameworks before fields c
+stands_behind frameworks groups script before fields c r (inl on) = inl on
+stands_behind frameworks groups script before fields c r (inr (inl by)) = inr (inl (record {
+  read = r.read;
+  are_lines = r.are_lines;
+  stands = subst (λ g. StandsByGroup g fields c) r.groups_are by;
+}))
+stands_behind frameworks groups script before fields c r (inr (inr among)) = inr (inr among)
+
+bad_line_told : (frameworks : ℕ) (bytes : List ℕ) (number : ℕ) (cause : ScriptCause)
+    → IsFirstBadLine frameworks (kept_lines bytes) number cause → IsFirstFault frameworks bytes number cause
+bad_line_told frameworks bytes number cause b =
     let lines = kept_lines bytes in
     let before = b.has_read.before in
     let r = b.has_read.are_read in
@@ -186,18 +215,11 @@ bad_line_told bytes number cause b =
         behind = others;
         lines_are = whole;
         number_is = b.bad.number_is;
-        stands = elim b.bad.told.stands [
-          | inl on ↦ inl on
-          | inr by ↦ inr (record {
-            read = r.read;
-            are_lines = r.are_lines;
-            stands = subst (λ g. StandsByGroup g (field_texts line.text) cause) r.groups_are by;
-          })
-        ];
+        stands = stands_behind frameworks b.groups b.script before (field_texts line.text) cause r b.bad.told.stands;
       });
       first = λ l c stands. elim stands [
         | inl at ↦ elim (places at.before before at.line line at.behind others (sym at.lines_are ∙ whole)) [
-          | inl p ↦ absurd (none_stands before r.read l c r.are_lines r.fit (record {
+          | inl p ↦ absurd (none_stands frameworks before r.read l c r.are_lines r.fit r.among (record {
             before = at.before;
             line = at.line;
             behind = p.between;
@@ -207,7 +229,8 @@ bad_line_told bytes number cause b =
           }))
           | inr (inl p) ↦ inr (
             b.bad.number_is ∙ sym (ap (λ x. x.number) p.lines) ∙ sym at.number_is,
-            b.bad.told.first c (stands_here b.groups b.script before at.before at.line line c r p at.stands),
+            b.bad.told.first c
+                (stands_here frameworks b.groups b.script before at.before at.line line c r p at.stands),
           )
           | inr (inr p) ↦
               let higher = numbers_differ lines before others at.before at.behind line at.line (kept_lines-rise bytes)
@@ -224,16 +247,18 @@ bad_line_told bytes number cause b =
       ];
     }
 
-pub breaks_told : (bytes : List ℕ) (fault : ScriptFault) → BreaksAt (kept_lines bytes) fault → IsToldOf bytes fault
-breaks_told bytes (At number cause) b = bad_line_told bytes number cause b
-breaks_told bytes Memory b = tt
+pub breaks_told : (frameworks : ℕ) (bytes : List ℕ) (fault : ScriptFault)
+    → BreaksAt frameworks (kept_lines bytes) fault → IsToldOf frameworks bytes fault
+breaks_told frameworks bytes (At number cause) b = bad_line_told frameworks bytes number cause b
+breaks_told frameworks bytes Memory b = tt
 
 -- ---- behind the last line
 
-pub open_told : (bytes : List ℕ) (groups : Groups) (script : List ScriptLine) (session : ℕ) (edits : List Edit)
-    (number : ℕ) → AreRead (kept_lines bytes) groups script → groups session ≡ Some edits
-    → number ≡ length (lines_of bytes) + 1 → IsFirstFault bytes number OpenGroup
-open_told bytes groups script session edits number r opened number_is = record {
+pub open_told : (frameworks : ℕ) (bytes : List ℕ) (groups : Groups) (script : Script) (session : ℕ)
+    (edits : List Edit) (number : ℕ) → AreRead frameworks (kept_lines bytes) groups script
+    → groups session ≡ Inside edits → number ≡ length (lines_of bytes) + 1
+    → IsFirstFault frameworks bytes number OpenGroup
+open_told frameworks bytes groups script session edits number r opened number_is = record {
   stands = inr (
     refl,
     record {
@@ -246,7 +271,7 @@ open_told bytes groups script session edits number r opened number_is = record {
     },
   );
   first = λ l c stands. elim stands [
-    | inl at ↦ absurd (none_stands (kept_lines bytes) r.read l c r.are_lines r.fit at)
+    | inl at ↦ absurd (none_stands frameworks (kept_lines bytes) r.read l c r.are_lines r.fit r.among at)
     | inr last ↦ inr (
       number_is ∙ sym last.1.number_is,
       subst (λ cause. rank OpenGroup ≤ rank cause) (sym last.0) (omega arith),
@@ -254,17 +279,15 @@ open_told bytes groups script session edits number r opened number_is = record {
   ];
 }
 
-none_open : (group : Option (List Edit)) → ((edits : List Edit) → group ≡ Some edits → ⊥) → group ≡ None
-none_open None none = refl
-none_open (Some edits) none = absurd (none edits refl)
-
-pub script_is : (bytes : List ℕ) (groups : Groups) (script : List ScriptLine)
-    → AreRead (kept_lines bytes) groups script → ((s : ℕ) (edits : List Edit) → groups s ≡ Some edits → ⊥)
-    → IsScript bytes (record { lines = script })
-script_is bytes groups script r none = record {
+pub script_is : (frameworks : ℕ) (bytes : List ℕ) (groups : Groups) (script : Script)
+    → AreRead frameworks (kept_lines bytes) groups script
+    → ((s : ℕ) (edits : List Edit) → groups s ≡ Inside edits → ⊥) → IsScript frameworks bytes script
+script_is frameworks bytes groups script r none = record {
   lines = r.read;
   are_lines = r.are_lines;
   fit = r.fit;
-  closed = λ s. ap (λ g. g s) (sym r.groups_are) ∙ none_open (groups s) (none s);
+  closed = λ s edits e. none s edits (ap (λ g. g s) r.groups_are ∙ e);
   commands = r.commands;
+  uses = r.uses;
+  among = subst (AreAmong frameworks) (sym r.uses) r.among;
 }

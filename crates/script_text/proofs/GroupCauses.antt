@@ -1,6 +1,6 @@
--- Which cause is told of a line, where groups are open.
+-- Which cause is told of a line, by where its session stands.
 use Rattle.std.proofs.Common.{◌≡◌, ℕ, ◌≤◌, List, [], ◌∷◌, length, refl, sym, ap, subst, ◌∙◌, inl, inr, arith}
-use Rattle.std.specs.Prelude.{codes, Option, Some, None}
+use Rattle.std.specs.Prelude.{codes}
 use Rattle.std.proofs.lemmas.Bool.{cases_lt}
 use Rattle.std.proofs.lemmas.Slice.Zip.{AllZip-long}
 use Rattle.num_text.specs.Cuts.{field_texts}
@@ -13,19 +13,23 @@ use Rattle.script_text.specs.declared.fault.LineStop.TheVariants.{Wrong, Memory}
 use Rattle.script_text.specs.declared.fault.ScriptCause.{ScriptCause}
 use Rattle.script_text.specs.declared.fault.ScriptCause.TheVariants.{BadSession, BadCommand, BadTask, BadNumber}
 use Rattle.script_text.specs.declared.fault.ScriptCause.TheVariants.{BadQuery, EmptyGroup, GroupTooLong, OpenGroup}
+use Rattle.script_text.specs.declared.fault.ScriptCause.TheVariants.{BadFramework}
+use Rattle.script_text.specs.declared.open_groups.Place.{Place}
+use Rattle.script_text.specs.declared.open_groups.Place.TheVariants.{Unbegun, Between, Inside}
 use Rattle.script_text.specs.declared.text_line.LineCommand.{LineCommand}
-use Rattle.script_text.specs.declared.text_line.LineCommand.TheVariants.{Ask, Begin, Edit as change_by, End}
+use Rattle.script_text.specs.declared.text_line.LineCommand.TheVariants.{Ask, Begin, Edit as change_by, End, Use as on}
 use Rattle.script_text.specs.declared.text_line.TextLine.{TextLine}
 use Rattle.script_text.specs.Changes.{change_name, change_of, edit_numbers}
-use Rattle.script_text.specs.Groups.{FitsGroup, Groups, is_open}
+use Rattle.script_text.specs.Groups.{FitsGroup, Groups}
 use Rattle.script_text.specs.ScriptFaults.{rank, BeginWithSession, HaveChangeForm, IsFirstCause, IsMisplaced}
-use Rattle.script_text.specs.ScriptFaults.{IsMisplacedName, StandsByGroup, StandsInGroup, StandsOn}
+use Rattle.script_text.specs.ScriptFaults.{IsMisplacedName, StandsAmong, StandsByGroup, StandsInGroup, StandsOn}
 use Rattle.script_text.specs.ScriptText.{AreCommandFields, AreEditFields, IsTextLine}
 use Rattle.script_text.specs.Steps.{BreaksIn, BreaksLimit, FitsIn, IfWrong, IsFirstIn, IsMisplacedIn, TakesSession}
 use Rattle.script_text.proofs.CommandCauses.{first_same, marks_no_change, others_same}
 use Rattle.script_text.proofs.LineCauses.{begins, edit_takes, line_is_good}
 use Rattle.script_text.proofs.Names.{ask_is_no_change, begin_is_no_change, begin_is_no_end}
 use Rattle.script_text.proofs.Names.{end_is_no_ask, end_is_no_change}
+use Rattle.script_text.proofs.Names.{use_is_no_ask, use_is_no_begin, use_is_no_change, use_is_no_end}
 
 -- ---- the session of a line, and its command's name
 
@@ -82,19 +86,19 @@ no_name groups fields others session takes none g =
     absurd (omega (arith, long))
 
 pub name_there : (groups : Groups) (fields others more : List (List ℕ)) (session : ℕ) (name : List ℕ)
-    → TakesSession fields session others → others ≡ name ∷ more → IsMisplacedName (is_open (groups session)) name
+    → TakesSession fields session others → others ≡ name ∷ more → IsMisplacedName (groups session) name
     → IsMisplacedIn groups fields
 name_there groups fields others more session name takes e misplaced =
     stands_by groups fields others session BadCommand takes
     (record { name = name; others = more; fields_are = e; misplaced = misplaced })
 
 pub name_placed : (groups : Groups) (fields others more : List (List ℕ)) (session : ℕ) (name : List ℕ)
-    → TakesSession fields session others → others ≡ name ∷ more → (IsMisplacedName (is_open (groups session)) name → ⊥)
+    → TakesSession fields session others → others ≡ name ∷ more → (IsMisplacedName (groups session) name → ⊥)
     → IsMisplacedIn groups fields → ⊥
 name_placed groups fields others more session name takes e placed g =
     let m = stands_there groups fields others session BadCommand takes g in
     let names : m.name ≡ name = first_same m.name name m.others more (sym m.fields_are ∙ e) in
-    placed (subst (λ n. IsMisplacedName (is_open (groups session)) n) names m.misplaced)
+    placed (subst (λ n. IsMisplacedName (groups session) n) names m.misplaced)
 
 -- ---- ranks
 
@@ -108,6 +112,7 @@ of_fields fields BadQuery stands = omega arith
 of_fields fields OpenGroup stands = absurd stands
 of_fields fields GroupTooLong stands = absurd stands
 of_fields fields EmptyGroup stands = absurd stands
+of_fields fields BadFramework stands = absurd stands
 
 behind_session : (fields : List (List ℕ)) → BeginWithSession fields → (cause : ScriptCause) → StandsOn fields cause
     → 2 ≤ rank cause
@@ -119,17 +124,19 @@ behind_session fields session BadQuery stands = omega arith
 behind_session fields session OpenGroup stands = absurd stands
 behind_session fields session GroupTooLong stands = absurd stands
 behind_session fields session EmptyGroup stands = absurd stands
+behind_session fields session BadFramework stands = absurd stands
 
-of_group : (group : Option (List Edit)) (fields : List (List ℕ)) (cause : ScriptCause)
-    → StandsInGroup group fields cause → 2 ≤ rank cause
-of_group group fields BadSession stands = absurd stands
-of_group group fields BadCommand stands = omega arith
-of_group group fields BadTask stands = absurd stands
-of_group group fields BadNumber stands = absurd stands
-of_group group fields BadQuery stands = absurd stands
-of_group group fields OpenGroup stands = absurd stands
-of_group group fields GroupTooLong stands = omega arith
-of_group group fields EmptyGroup stands = omega arith
+of_group : (place : Place) (fields : List (List ℕ)) (cause : ScriptCause)
+    → StandsInGroup place fields cause → 2 ≤ rank cause
+of_group place fields BadSession stands = absurd stands
+of_group place fields BadCommand stands = omega arith
+of_group place fields BadTask stands = absurd stands
+of_group place fields BadNumber stands = absurd stands
+of_group place fields BadQuery stands = absurd stands
+of_group place fields OpenGroup stands = absurd stands
+of_group place fields GroupTooLong stands = omega arith
+of_group place fields EmptyGroup stands = omega arith
+of_group place fields BadFramework stands = absurd stands
 
 -- where the name may stand, a group's causes are those of its length
 of_length : (groups : Groups) (fields : List (List ℕ)) → (IsMisplacedIn groups fields → ⊥) → (cause : ScriptCause)
@@ -142,38 +149,48 @@ of_length groups fields placed BadQuery g = absurd g.stands
 of_length groups fields placed OpenGroup g = absurd g.stands
 of_length groups fields placed GroupTooLong g = omega arith
 of_length groups fields placed EmptyGroup g = omega arith
+of_length groups fields placed BadFramework g = absurd g.stands
+
+-- a framework that isn't there comes last
+last_of_all : (frameworks : ℕ) (fields : List (List ℕ)) (cause : ScriptCause) → StandsAmong frameworks fields cause
+    → rank cause ≡ 9
+last_of_all frameworks fields cause among = ap rank among.0
 
 -- ---- the cause that is told
 
-pub misplaced_told : (groups : Groups) (fields : List (List ℕ)) → IsMisplacedIn groups fields
-    → IsFirstIn groups fields BadCommand
-misplaced_told groups fields g =
+pub misplaced_told : (frameworks : ℕ) (groups : Groups) (fields : List (List ℕ)) → IsMisplacedIn groups fields
+    → IsFirstIn frameworks groups fields BadCommand
+misplaced_told frameworks groups fields g =
     let session = begins fields g.others g.session (takes_group groups fields BadCommand g) in
     record {
-      stands = inr g;
+      stands = inr (inl g);
       first = λ other stands. elim stands [
         | inl on ↦ behind_session fields session other on
-        | inr by ↦ of_group (groups by.session) by.others other by.stands
+        | inr (inl by) ↦ of_group (groups by.session) by.others other by.stands
+        | inr (inr among) ↦ let last = last_of_all frameworks fields other among in omega (arith, last)
       ];
     }
 
-field_told : (groups : Groups) (fields : List (List ℕ)) (cause : ScriptCause) → (IsMisplacedIn groups fields → ⊥)
-    → IsFirstCause (StandsOn fields) cause → IsFirstIn groups fields cause
-field_told groups fields cause placed told = record {
-  stands = inl told.stands;
-  first = λ other stands. elim stands [
-    | inl on ↦ told.first other on
-    | inr by ↦
-        let late = of_length groups fields placed other by in
-        let soon = of_fields fields cause told.stands in
-        omega (arith, late, soon)
-  ];
-}
+field_told : (frameworks : ℕ) (groups : Groups) (fields : List (List ℕ)) (cause : ScriptCause)
+    → (IsMisplacedIn groups fields → ⊥) → IsFirstCause (StandsOn fields) cause
+    → IsFirstIn frameworks groups fields cause
+field_told frameworks groups fields cause placed told =
+    let soon = of_fields fields cause told.stands in
+    record {
+      stands = inl told.stands;
+      first = λ other stands. elim stands [
+        | inl on ↦ told.first other on
+        | inr (inl by) ↦ let late = of_length groups fields placed other by in omega (arith, late, soon)
+        | inr (inr among) ↦ let last = last_of_all frameworks fields other among in omega (arith, last, soon)
+      ];
+    }
 
-pub halt_in_group : (groups : Groups) (fields : List (List ℕ)) (halt : LineStop) → (IsMisplacedIn groups fields → ⊥)
-    → IfWrong halt (IsFirstCause (StandsOn fields)) → IfWrong halt (IsFirstIn groups fields)
-halt_in_group groups fields (Wrong cause) placed told = field_told groups fields cause placed told
-halt_in_group groups fields Memory placed told = tt
+pub halt_in_group : (frameworks : ℕ) (groups : Groups) (fields : List (List ℕ)) (halt : LineStop)
+    → (IsMisplacedIn groups fields → ⊥) → IfWrong halt (IsFirstCause (StandsOn fields))
+    → IfWrong halt (IsFirstIn frameworks groups fields)
+halt_in_group frameworks groups fields (Wrong cause) placed told =
+    field_told frameworks groups fields cause placed told
+halt_in_group frameworks groups fields Memory placed told = tt
 
 edit_form : (fields : List (List ℕ)) (edit : Edit) → AreEditFields fields edit → HaveChangeForm fields
 edit_form fields edit h = record {
@@ -189,28 +206,35 @@ no_edits [] e = refl
 no_edits (edit ∷ edits) e = absurd (omega arith)
 
 -- an edit too many, or an end behind no edits
-limit_first : (groups : Groups) (fields others : List (List ℕ)) (session : ℕ) (command : LineCommand)
+limit_first : (frameworks : ℕ) (groups : Groups) (fields others : List (List ℕ)) (session : ℕ) (command : LineCommand)
     (edits : List Edit) (cause : ScriptCause) → TakesSession fields session others → AreCommandFields others command
     → (IsMisplacedIn groups fields → ⊥) → ((c : ScriptCause) → StandsOn fields c → ⊥)
-    → groups session ≡ Some edits → BreaksLimit command (length edits) cause → IsFirstIn groups fields cause
-limit_first groups fields others session (change_by edit) edits cause takes are placed good opened breaks =
-    subst (IsFirstIn groups fields) (sym breaks.1) (record {
-      stands = inr (stands_by groups fields others session GroupTooLong takes
-          (subst (λ group. StandsInGroup group others GroupTooLong) (sym opened) (edit_form others edit are, breaks.0)));
+    → groups session ≡ Inside edits → BreaksLimit command (length edits) cause
+    → IsFirstIn frameworks groups fields cause
+limit_first frameworks groups fields others session (change_by edit) edits cause takes are placed good opened breaks =
+    subst (IsFirstIn frameworks groups fields) (sym breaks.1) (record {
+      stands = inr (inl (stands_by groups fields others session GroupTooLong takes
+          (subst (λ group. StandsInGroup group others GroupTooLong) (sym opened) (edit_form others edit are, breaks.0))));
       first = λ other stands. elim stands [
         | inl on ↦ absurd (good other on)
-        | inr by ↦ of_length groups fields placed other by
+        | inr (inl by) ↦ of_length groups fields placed other by
+        | inr (inr among) ↦ let last = last_of_all frameworks fields other among in omega (arith, last)
       ];
     })
-limit_first groups fields others session (Ask asked) edits cause takes are placed good opened breaks = absurd breaks
-limit_first groups fields others session Begin edits cause takes are placed good opened breaks = absurd breaks
-limit_first groups fields others session End edits cause takes are placed good opened breaks =
-    subst (IsFirstIn groups fields) (sym breaks.1) (record {
-      stands = inr (stands_by groups fields others session EmptyGroup takes
-          (are, opened ∙ ap Some (no_edits edits breaks.0)));
+limit_first frameworks groups fields others session (Ask asked) edits cause takes are placed good opened breaks =
+    absurd breaks
+limit_first frameworks groups fields others session Begin edits cause takes are placed good opened breaks =
+    absurd breaks
+limit_first frameworks groups fields others session (on k) edits cause takes are placed good opened breaks =
+    absurd breaks
+limit_first frameworks groups fields others session End edits cause takes are placed good opened breaks =
+    subst (IsFirstIn frameworks groups fields) (sym breaks.1) (record {
+      stands = inr (inl (stands_by groups fields others session EmptyGroup takes
+          (are, opened ∙ ap Inside (no_edits edits breaks.0))));
       first = λ other stands. elim stands [
         | inl on ↦ absurd (good other on)
-        | inr by ↦ at_end other by
+        | inr (inl by) ↦ at_end other by
+        | inr (inr among) ↦ let last = last_of_all frameworks fields other among in omega (arith, last)
       ];
     })
   where
@@ -226,42 +250,57 @@ limit_first groups fields others session End edits cause takes are placed good o
         (stands_there groups fields others session GroupTooLong takes by) in
         absurd (marks_no_change others (inr are) form.0)
     at_end EmptyGroup by = omega arith
+    at_end BadFramework by = absurd by.stands
 
-pub limit_told : (groups : Groups) (text : List ℕ) (line : TextLine) (cause : ScriptCause) → IsTextLine text line
-    → (IsMisplacedIn groups (field_texts text) → ⊥) → BreaksIn groups line cause
-    → IsFirstIn groups (field_texts text) cause
-limit_told groups text line cause h placed b =
-    limit_first groups (field_texts text) h.others line.session line.command b.edits cause (takes_line text line h)
-    h.command_is placed (line_is_good text line h) b.opened b.breaks
+pub limit_told : (frameworks : ℕ) (groups : Groups) (text : List ℕ) (line : TextLine) (cause : ScriptCause)
+    → IsTextLine text line → (IsMisplacedIn groups (field_texts text) → ⊥) → BreaksIn groups line cause
+    → IsFirstIn frameworks groups (field_texts text) cause
+limit_told frameworks groups text line cause h placed b =
+    limit_first frameworks groups (field_texts text) h.others line.session line.command b.edits cause
+    (takes_line text line h) h.command_is placed (line_is_good text line h) b.opened b.breaks
 
 -- ---- a line that fits
 
--- a group that is open is told by its edits
-fits_at : (command : LineCommand) (group : Option (List Edit)) (fields : List (List ℕ))
-    → AreCommandFields fields command → (IsMisplaced group fields → ⊥)
-    → ((edits : List Edit) (cause : ScriptCause) → group ≡ Some edits → BreaksLimit command (length edits) cause → ⊥)
-    → FitsGroup command group
-fits_at (change_by edit) None fields are placed free = tt
-fits_at (change_by edit) (Some edits) fields are placed free = elim (cases_lt (length edits) MAX_GROUP) [
+-- where a session stands is told by the edits of its group
+fits_at : (command : LineCommand) (place : Place) (fields : List (List ℕ))
+    → AreCommandFields fields command → (IsMisplaced place fields → ⊥)
+    → ((edits : List Edit) (cause : ScriptCause) → place ≡ Inside edits → BreaksLimit command (length edits) cause → ⊥)
+    → FitsGroup command place
+fits_at (change_by edit) Unbegun fields are placed free = tt
+fits_at (change_by edit) Between fields are placed free = tt
+fits_at (change_by edit) (Inside edits) fields are placed free = elim (cases_lt (length edits) MAX_GROUP) [
   | inl room ↦ room
   | inr full ↦ absurd (free edits GroupTooLong refl (full, refl))
 ]
-fits_at (Ask asked) None fields are placed free = tt
-fits_at (Ask asked) (Some edits) fields are placed free = placed (record {
+fits_at (Ask asked) Unbegun fields are placed free = tt
+fits_at (Ask asked) Between fields are placed free = tt
+fits_at (Ask asked) (Inside edits) fields are placed free = placed (record {
   name = codes "ask";
   others = task_name asked.task ∷ are.numbers;
   fields_are = are.fields_are;
   misplaced = inl refl;
 })
-fits_at Begin None fields are placed free = tt
-fits_at Begin (Some edits) fields are placed free =
-    placed (record { name = codes "begin"; others = []; fields_are = are; misplaced = inr refl })
-fits_at End None fields are placed free =
+fits_at Begin Unbegun fields are placed free = tt
+fits_at Begin Between fields are placed free = tt
+fits_at Begin (Inside edits) fields are placed free =
+    placed (record { name = codes "begin"; others = []; fields_are = are; misplaced = inr (inl refl) })
+fits_at End Unbegun fields are placed free =
     placed (record { name = codes "end"; others = []; fields_are = are; misplaced = refl })
-fits_at End (Some edits) fields are placed free = elim (cases_lt 0 (length edits)) [
+fits_at End Between fields are placed free =
+    placed (record { name = codes "end"; others = []; fields_are = are; misplaced = inl refl })
+fits_at End (Inside edits) fields are placed free = elim (cases_lt 0 (length edits)) [
   | inl some ↦ some
   | inr none ↦ absurd (free edits EmptyGroup refl (omega arith, refl))
 ]
+fits_at (on k) Unbegun fields are placed free = tt
+fits_at (on k) Between fields are placed free =
+    placed (record { name = codes "use"; others = are.numbers; fields_are = are.fields_are; misplaced = inr refl })
+fits_at (on k) (Inside edits) fields are placed free = placed (record {
+  name = codes "use";
+  others = are.numbers;
+  fields_are = are.fields_are;
+  misplaced = inr (inr refl);
+})
 
 pub line_fits : (groups : Groups) (text : List ℕ) (line : TextLine) → IsTextLine text line
     → (IsMisplacedIn groups (field_texts text) → ⊥) → ((cause : ScriptCause) → BreaksIn groups line cause → ⊥)
@@ -271,63 +310,100 @@ line_fits groups text line h placed free =
     (λ m. placed (stands_by groups (field_texts text) h.others line.session BadCommand (takes_line text line h) m))
     (λ edits cause opened breaks. free cause (record { edits = edits; opened = opened; breaks = breaks }))
 
--- such a line has no cause by a group
-misplaced_name : (command : LineCommand) (group : Option (List Edit)) (fields : List (List ℕ)) (name : List ℕ)
-    (more : List (List ℕ)) → AreCommandFields fields command → FitsGroup command group → fields ≡ name ∷ more
-    → IsMisplacedName (is_open group) name → ⊥
-misplaced_name (change_by edit) None fields name more are fits e is = end_is_no_change (change_of edit)
-    (first_same (change_name (change_of edit)) name are.numbers more (sym are.fields_are ∙ e) ∙ is)
-misplaced_name (change_by edit) (Some edits) fields name more are fits e (inl is) = ask_is_no_change (change_of edit)
-    (first_same (change_name (change_of edit)) name are.numbers more (sym are.fields_are ∙ e) ∙ is)
-misplaced_name (change_by edit) (Some edits) fields name more are fits e (inr is) = begin_is_no_change (change_of edit)
-    (first_same (change_name (change_of edit)) name are.numbers more (sym are.fields_are ∙ e) ∙ is)
-misplaced_name (Ask asked) None fields name more are fits e is = end_is_no_ask
-    (first_same (codes "ask") name (task_name asked.task ∷ are.numbers) more (sym are.fields_are ∙ e) ∙ is)
-misplaced_name (Ask asked) (Some edits) fields name more are fits e is = fits
-misplaced_name Begin None fields name more are fits e is = begin_is_no_end
-    (first_same (codes "begin") name [] more (sym are ∙ e) ∙ is)
-misplaced_name Begin (Some edits) fields name more are fits e is = fits
-misplaced_name End None fields name more are fits e is = fits
-misplaced_name End (Some edits) fields name more are fits e (inl is) = end_is_no_ask
-    (sym (first_same (codes "end") name [] more (sym are ∙ e) ∙ is))
-misplaced_name End (Some edits) fields name more are fits e (inr is) = begin_is_no_end
-    (sym (first_same (codes "end") name [] more (sym are ∙ e) ∙ is))
+-- such a line has no cause by where its session stands
+change_placed : (edit : Edit) (place : Place) (fields : List (List ℕ)) (name : List ℕ) (more : List (List ℕ))
+    → AreEditFields fields edit → fields ≡ name ∷ more → IsMisplacedName place name → ⊥
+change_placed edit place fields name more are e is = at place is
+  where
+    names : change_name (change_of edit) ≡ name
+    names = first_same (change_name (change_of edit)) name are.numbers more (sym are.fields_are ∙ e)
 
-too_many : (command : LineCommand) (group : Option (List Edit)) (fields : List (List ℕ))
-    → AreCommandFields fields command → FitsGroup command group → StandsInGroup group fields GroupTooLong → ⊥
-too_many command None fields are fits many = many
-too_many (change_by edit) (Some edits) fields are fits many = absurd (omega (arith, fits, many.1))
-too_many (Ask asked) (Some edits) fields are fits many = fits
-too_many Begin (Some edits) fields are fits many = fits
-too_many End (Some edits) fields are fits many = marks_no_change fields (inr are) many.0
+    at : (place : Place) → IsMisplacedName place name → ⊥
+    at Unbegun is = end_is_no_change (change_of edit) (names ∙ is)
+    at Between (inl is) = end_is_no_change (change_of edit) (names ∙ is)
+    at Between (inr is) = use_is_no_change (change_of edit) (names ∙ is)
+    at (Inside edits) (inl is) = ask_is_no_change (change_of edit) (names ∙ is)
+    at (Inside edits) (inr (inl is)) = begin_is_no_change (change_of edit) (names ∙ is)
+    at (Inside edits) (inr (inr is)) = use_is_no_change (change_of edit) (names ∙ is)
+
+name_is : (fields : List (List ℕ)) (name own : List ℕ) (more numbers : List (List ℕ)) → fields ≡ own ∷ numbers
+    → fields ≡ name ∷ more → own ≡ name
+name_is fields name own more numbers f e = first_same own name numbers more (sym f ∙ e)
+
+misplaced_name : (command : LineCommand) (place : Place) (fields : List (List ℕ)) (name : List ℕ)
+    (more : List (List ℕ)) → AreCommandFields fields command → FitsGroup command place → fields ≡ name ∷ more
+    → IsMisplacedName place name → ⊥
+misplaced_name (change_by edit) place fields name more are fits e is = change_placed edit place fields name more are e is
+misplaced_name (Ask asked) Unbegun fields name more are fits e is = end_is_no_ask
+    (name_is fields name (codes "ask") more (task_name asked.task ∷ are.numbers) are.fields_are e ∙ is)
+misplaced_name (Ask asked) Between fields name more are fits e (inl is) = end_is_no_ask
+    (name_is fields name (codes "ask") more (task_name asked.task ∷ are.numbers) are.fields_are e ∙ is)
+misplaced_name (Ask asked) Between fields name more are fits e (inr is) = use_is_no_ask
+    (name_is fields name (codes "ask") more (task_name asked.task ∷ are.numbers) are.fields_are e ∙ is)
+misplaced_name (Ask asked) (Inside edits) fields name more are fits e is = fits
+misplaced_name Begin Unbegun fields name more are fits e is =
+    begin_is_no_end (name_is fields name (codes "begin") more [] are e ∙ is)
+misplaced_name Begin Between fields name more are fits e (inl is) =
+    begin_is_no_end (name_is fields name (codes "begin") more [] are e ∙ is)
+misplaced_name Begin Between fields name more are fits e (inr is) =
+    use_is_no_begin (name_is fields name (codes "begin") more [] are e ∙ is)
+misplaced_name Begin (Inside edits) fields name more are fits e is = fits
+misplaced_name End Unbegun fields name more are fits e is = fits
+misplaced_name End Between fields name more are fits e is = fits
+misplaced_name End (Inside edits) fields name more are fits e (inl is) =
+    end_is_no_ask (sym (name_is fields name (codes "end") more [] are e ∙ is))
+misplaced_name End (Inside edits) fields name more are fits e (inr (inl is)) =
+    begin_is_no_end (sym (name_is fields name (codes "end") more [] are e ∙ is))
+misplaced_name End (Inside edits) fields name more are fits e (inr (inr is)) =
+    use_is_no_end (name_is fields name (codes "end") more [] are e ∙ is)
+misplaced_name (on k) Unbegun fields name more are fits e is =
+    use_is_no_end (sym (name_is fields name (codes "use") more are.numbers are.fields_are e ∙ is))
+misplaced_name (on k) Between fields name more are fits e is = fits
+misplaced_name (on k) (Inside edits) fields name more are fits e is = fits
+
+too_many : (command : LineCommand) (place : Place) (fields : List (List ℕ))
+    → AreCommandFields fields command → FitsGroup command place → StandsInGroup place fields GroupTooLong → ⊥
+too_many command Unbegun fields are fits many = many
+too_many command Between fields are fits many = many
+too_many (change_by edit) (Inside edits) fields are fits many = absurd (omega (arith, fits, many.1))
+too_many (Ask asked) (Inside edits) fields are fits many = fits
+too_many Begin (Inside edits) fields are fits many = fits
+too_many End (Inside edits) fields are fits many = marks_no_change fields (inr are) many.0
+too_many (on k) (Inside edits) fields are fits many = fits
 
 -- the number of edits, and 1 where no group is open
-abbrev count_of : Option (List Edit) → ℕ
-count_of None = 1
-count_of (Some edits) = length edits
+abbrev count_of : Place → ℕ
+count_of Unbegun = 1
+count_of Between = 1
+count_of (Inside edits) = length edits
 
-too_few : (command : LineCommand) (group : Option (List Edit)) (fields : List (List ℕ))
-    → AreCommandFields fields command → FitsGroup command group → StandsInGroup group fields EmptyGroup → ⊥
-too_few command None fields are fits few =
+too_few : (command : LineCommand) (place : Place) (fields : List (List ℕ))
+    → AreCommandFields fields command → FitsGroup command place → StandsInGroup place fields EmptyGroup → ⊥
+too_few command Unbegun fields are fits few =
     let count : 1 ≡ 0 = ap count_of few.1 in absurd (omega (arith, count))
-too_few (change_by edit) (Some edits) fields are fits few = marks_no_change fields (inr few.0) (edit_form fields edit are)
-too_few (Ask asked) (Some edits) fields are fits few = fits
-too_few Begin (Some edits) fields are fits few = fits
-too_few End (Some edits) fields are fits few =
+too_few command Between fields are fits few =
+    let count : 1 ≡ 0 = ap count_of few.1 in absurd (omega (arith, count))
+too_few (change_by edit) (Inside edits) fields are fits few =
+    marks_no_change fields (inr few.0) (edit_form fields edit are)
+too_few (Ask asked) (Inside edits) fields are fits few = fits
+too_few Begin (Inside edits) fields are fits few = fits
+too_few End (Inside edits) fields are fits few =
     let count : length edits ≡ 0 = ap count_of few.1 in absurd (omega (arith, fits, count))
+too_few (on k) (Inside edits) fields are fits few = fits
 
-good_at : (command : LineCommand) (group : Option (List Edit)) (fields : List (List ℕ))
-    → AreCommandFields fields command → FitsGroup command group → (cause : ScriptCause)
-    → StandsInGroup group fields cause → ⊥
-good_at command group fields are fits BadSession stands = stands
-good_at command group fields are fits BadCommand m =
-    misplaced_name command group fields m.name m.others are fits m.fields_are m.misplaced
-good_at command group fields are fits BadTask stands = stands
-good_at command group fields are fits BadNumber stands = stands
-good_at command group fields are fits BadQuery stands = stands
-good_at command group fields are fits OpenGroup stands = stands
-good_at command group fields are fits GroupTooLong stands = too_many command group fields are fits stands
-good_at command group fields are fits EmptyGroup stands = too_few command group fields are fits stands
+good_at : (command : LineCommand) (place : Place) (fields : List (List ℕ))
+    → AreCommandFields fields command → FitsGroup command place → (cause : ScriptCause)
+    → StandsInGroup place fields cause → ⊥
+good_at command place fields are fits BadSession stands = stands
+good_at command place fields are fits BadCommand m =
+    misplaced_name command place fields m.name m.others are fits m.fields_are m.misplaced
+good_at command place fields are fits BadTask stands = stands
+good_at command place fields are fits BadNumber stands = stands
+good_at command place fields are fits BadQuery stands = stands
+good_at command place fields are fits OpenGroup stands = stands
+good_at command place fields are fits GroupTooLong stands = too_many command place fields are fits stands
+good_at command place fields are fits EmptyGroup stands = too_few command place fields are fits stands
+good_at command place fields are fits BadFramework stands = stands
 
 pub fitting_is_good : (groups : Groups) (text : List ℕ) (line : TextLine) → IsTextLine text line → FitsIn groups line
     → (cause : ScriptCause) → StandsByGroup groups (field_texts text) cause → ⊥

@@ -6,6 +6,8 @@ mod AskedLines
 mod EditLines
 pub mod FirstFaults
 mod LineCauses
+mod ListLemmas
 mod GroupCauses
 mod SlotLemmas
 pub mod OneScript
+pub mod UseLemmas

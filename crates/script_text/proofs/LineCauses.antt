@@ -1,5 +1,5 @@
 -- Which cause is told of a line.
-use Rattle.std.proofs.Common.{◌≡◌, ℕ, ◌≤◌, List, length, refl, sym, ap, subst, arith, inl, inr}
+use Rattle.std.proofs.Common.{◌≡◌, ℕ, ◌≤◌, List, [], ◌∷◌, length, refl, sym, ap, subst, arith, inl, inr}
 use Rattle.std.proofs.lemmas.Slice.Zip.{AllZip-long}
 use Rattle.num_text.specs.Cuts.{field_texts}
 use Rattle.num_text.specs.Number.{IsNumber}
@@ -13,14 +13,15 @@ use Rattle.script_text.specs.declared.fault.LineStop.TheVariants.{Wrong, Memory}
 use Rattle.script_text.specs.declared.fault.ScriptCause.{ScriptCause}
 use Rattle.script_text.specs.declared.fault.ScriptCause.TheVariants.{BadSession, BadCommand, BadTask, BadNumber}
 use Rattle.script_text.specs.declared.fault.ScriptCause.TheVariants.{BadQuery, EmptyGroup, GroupTooLong, OpenGroup}
+use Rattle.script_text.specs.declared.fault.ScriptCause.TheVariants.{BadFramework}
 use Rattle.script_text.specs.declared.text_line.LineCommand.{LineCommand}
-use Rattle.script_text.specs.declared.text_line.LineCommand.TheVariants.{Ask, Begin, Edit as change_by, End}
+use Rattle.script_text.specs.declared.text_line.LineCommand.TheVariants.{Ask, Begin, Edit as change_by, End, Use as on}
 use Rattle.script_text.specs.declared.text_line.TextLine.{TextLine}
 use Rattle.script_text.specs.Changes.{Takes, change_of, edit_numbers}
 use Rattle.script_text.specs.ScriptFaults.{rank, BeginWithSession, IsFirstCause, StandsOn, StandsOnCommand}
-use Rattle.script_text.specs.ScriptText.{AreAskFields, AreCommandFields, AreEditFields, IsTextLine}
+use Rattle.script_text.specs.ScriptText.{AreAskFields, AreCommandFields, AreEditFields, AreUseFields, IsTextLine}
 use Rattle.script_text.specs.Steps.{IfWrong, TakesSession}
-use Rattle.script_text.proofs.CommandCauses.{ask_is_good, change_is_good, mark_is_good}
+use Rattle.script_text.proofs.CommandCauses.{ask_is_good, change_is_good, mark_is_good, use_is_good}
 
 -- ---- a cause of the command is one of the line
 
@@ -34,6 +35,7 @@ below fields BadQuery stands = stands
 below fields OpenGroup stands = absurd stands
 below fields GroupTooLong stands = absurd stands
 below fields EmptyGroup stands = absurd stands
+below fields BadFramework stands = absurd stands
 
 above : (fields : List (List ℕ)) → BeginWithSession fields → (cause : ScriptCause) → StandsOn fields cause
     → StandsOnCommand (behind_first fields) cause
@@ -45,6 +47,7 @@ above fields session BadQuery stands = stands
 above fields session OpenGroup stands = absurd stands
 above fields session GroupTooLong stands = absurd stands
 above fields session EmptyGroup stands = absurd stands
+above fields session BadFramework stands = absurd stands
 
 pub begins : (fields others : List (List ℕ)) (session : ℕ) → TakesSession fields session others → BeginWithSession fields
 begins fields others session takes = record {
@@ -80,6 +83,7 @@ lowest BadQuery = omega arith
 lowest OpenGroup = omega arith
 lowest GroupTooLong = omega arith
 lowest EmptyGroup = omega arith
+lowest BadFramework = omega arith
 
 pub session_told : (fields : List (List ℕ)) → (BeginWithSession fields → ⊥) → IsFirstCause (StandsOn fields) BadSession
 session_told fields none = record { stands = none; first = λ other stands. lowest other }
@@ -112,12 +116,20 @@ asked_is_good fields asked h cause stands =
     ask_is_good (task_name asked.task) h.numbers asked.task asked.number h.task_is refl h.spelled h.fits cause
     (subst (λ fs. StandsOnCommand fs cause) h.fields_are stands)
 
+used_is_good : (fields : List (List ℕ)) (framework : ℕ) → AreUseFields fields framework → (cause : ScriptCause)
+    → StandsOnCommand fields cause → ⊥
+used_is_good fields framework h cause stands =
+    let long = AllZip-long IsNumber h.numbers (framework ∷ []) h.spelled in
+    use_is_good h.numbers (framework ∷ []) (sym long) h.spelled cause
+    (subst (λ fs. StandsOnCommand fs cause) h.fields_are stands)
+
 command_is_good : (fields : List (List ℕ)) (command : LineCommand) → AreCommandFields fields command
     → (cause : ScriptCause) → StandsOnCommand fields cause → ⊥
 command_is_good fields (change_by edit) h cause stands = edit_is_good fields edit h cause stands
 command_is_good fields (Ask asked) h cause stands = asked_is_good fields asked h cause stands
 command_is_good fields Begin h cause stands = mark_is_good fields (inl h) cause stands
 command_is_good fields End h cause stands = mark_is_good fields (inr h) cause stands
+command_is_good fields (on framework) h cause stands = used_is_good fields framework h cause stands
 
 -- no cause stands on a line of a script
 pub line_is_good : (text : List ℕ) (line : TextLine) → IsTextLine text line → (cause : ScriptCause)

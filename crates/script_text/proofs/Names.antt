@@ -60,7 +60,7 @@ not_k DelCon e = absurd (omega arith)
 not_k Rule e = absurd (omega arith)
 not_k NoRule e = absurd (omega arith)
 
--- nor is the first byte of any that of `begin` or `end`
+-- nor is the first byte of any that of `begin`, `end` or `use`
 not_b : (change : EditWord) → get_or (change_name change) 0 0 ≡ 98 → ⊥
 not_b Arg e = absurd (omega arith)
 not_b NoArg e = absurd (omega arith)
@@ -87,6 +87,19 @@ not_e DelCon e = absurd (omega arith)
 not_e Rule e = absurd (omega arith)
 not_e NoRule e = absurd (omega arith)
 
+not_u : (change : EditWord) → get_or (change_name change) 0 0 ≡ 117 → ⊥
+not_u Arg e = absurd (omega arith)
+not_u NoArg e = absurd (omega arith)
+not_u Att e = absurd (omega arith)
+not_u NoAtt e = absurd (omega arith)
+not_u Asm e = absurd (omega arith)
+not_u NoAsm e = absurd (omega arith)
+not_u Con e = absurd (omega arith)
+not_u AddCon e = absurd (omega arith)
+not_u DelCon e = absurd (omega arith)
+not_u Rule e = absurd (omega arith)
+not_u NoRule e = absurd (omega arith)
+
 pub begin_is_no_change : (change : EditWord) → change_name change ≡ codes "begin" → ⊥
 begin_is_no_change change e = not_b change (ap (λ name. get_or name 0 0) e)
 
@@ -101,6 +114,18 @@ end_is_no_ask e = let first = ap (λ name. get_or name 0 0) e in absurd (omega (
 
 pub begin_is_no_end : codes "begin" ≡ codes "end" → ⊥
 begin_is_no_end e = let first = ap (λ name. get_or name 0 0) e in absurd (omega (arith, first))
+
+pub use_is_no_change : (change : EditWord) → change_name change ≡ codes "use" → ⊥
+use_is_no_change change e = not_u change (ap (λ name. get_or name 0 0) e)
+
+pub use_is_no_ask : codes "ask" ≡ codes "use" → ⊥
+use_is_no_ask e = let first = ap (λ name. get_or name 0 0) e in absurd (omega (arith, first))
+
+pub use_is_no_begin : codes "begin" ≡ codes "use" → ⊥
+use_is_no_begin e = let first = ap (λ name. get_or name 0 0) e in absurd (omega (arith, first))
+
+pub use_is_no_end : codes "end" ≡ codes "use" → ⊥
+use_is_no_end e = let first = ap (λ name. get_or name 0 0) e in absurd (omega (arith, first))
 
 pub ask_is_no_change : (change : EditWord) → change_name change ≡ codes "ask" → ⊥
 ask_is_no_change change e = not_k change (ap (λ name. get_or name 2 0) e)

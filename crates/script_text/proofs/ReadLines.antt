@@ -1,15 +1,17 @@
 -- The lines that were read, and those that are left.
-use Rattle.std.proofs.Common.{◌≡◌, List, [], ◌∷◌, ◌++◌, refl, sym, ap, subst, ◌∙◌}
+use Rattle.std.proofs.Common.{◌≡◌, ℕ, List, [], ◌∷◌, ◌++◌, refl, sym, ap, subst, ◌∙◌}
 use Rattle.std.proofs.lemmas.List.{append_assoc, append-nil}
 use Rattle.std.proofs.lemmas.Slice.Zip.{all_zipped_more}
 use Rattle.num_text.specs.Cuts.{LineText}
 use Rattle.script_text.specs.declared.fault.ScriptFault.{ScriptFault}
 use Rattle.script_text.specs.declared.fault.ScriptFault.TheVariants.{At, Memory}
-use Rattle.script_text.specs.declared.script.ScriptLine.{ScriptLine}
+use Rattle.script_text.specs.declared.script.Script.{Script}
+use Rattle.script_text.specs.declared.script.ScriptUse.{ScriptUse}
 use Rattle.script_text.specs.declared.text_line.TextLine.{TextLine}
 use Rattle.script_text.specs.Groups.{FitGroups, Groups, after_line, after_lines, commands_of, no_groups, told_at}
 use Rattle.script_text.specs.ScriptText.{IsTextLine}
 use Rattle.script_text.specs.Steps.{AreRead, BreaksAt, FitsIn, HasRead, StopsAt, TellsNext}
+use Rattle.script_text.specs.Uses.{AreAmong, used_at, uses_of}
 
 -- ---- a line more
 
@@ -33,20 +35,41 @@ commands_more groups (first ∷ read) line =
     ap (λ told. here ++ told) (commands_more later read line)
     ∙ sym (append_assoc here (commands_of later read) (told_at line (after_lines read later line.session)))
 
+uses_more : (read : List TextLine) (line : TextLine) → uses_of (read ++ line ∷ []) ≡ uses_of read ++ used_at line
+uses_more [] line = append-nil (used_at line)
+uses_more (first ∷ read) line =
+    ap (λ uses. used_at first ++ uses) (uses_more read line)
+    ∙ sym (append_assoc (used_at first) (uses_of read) (used_at line))
+
+both_among : (frameworks : ℕ) (uses more : List ScriptUse) → AreAmong frameworks uses → AreAmong frameworks more
+    → AreAmong frameworks (uses ++ more)
+both_among frameworks [] more are those = those
+both_among frameworks (one ∷ uses) more are those = (are.0, both_among frameworks uses more are.1 those)
+
 -- ---- what was read
 
-pub read_none : (lines : List LineText) (groups : Groups) → groups ≡ no_groups → HasRead lines lines groups []
-read_none lines groups none = record {
+pub read_none : (frameworks : ℕ) (lines : List LineText) (groups : Groups) (script : Script) → groups ≡ no_groups
+    → script.lines ≡ [] → script.uses ≡ [] → HasRead frameworks lines lines groups script
+read_none frameworks lines groups script none no_line no_use = record {
   before = [];
   lines_are = refl;
-  are_read = record { read = []; are_lines = tt; fit = tt; groups_are = none; commands = refl };
+  are_read = record {
+    read = [];
+    are_lines = tt;
+    fit = tt;
+    groups_are = none;
+    commands = no_line;
+    uses = no_use;
+    among = tt;
+  };
 }
 
-pub read_next : (lines left rest : List LineText) (groups later : Groups) (script more : List ScriptLine)
-    (told : TextLine) → HasRead lines left groups script → TellsNext left rest told → FitsIn groups told
-    → later ≡ after_line told groups → more ≡ script ++ told_at told (groups told.session)
-    → HasRead lines rest later more
-read_next lines left rest groups later script more told h next fits after commands =
+pub read_next : (frameworks : ℕ) (lines left rest : List LineText) (groups later : Groups) (script more : Script)
+    (told : TextLine) → HasRead frameworks lines left groups script → TellsNext left rest told → FitsIn groups told
+    → AreAmong frameworks (used_at told) → later ≡ after_line told groups
+    → more.lines ≡ script.lines ++ told_at told (groups told.session) → more.uses ≡ script.uses ++ used_at told
+    → HasRead frameworks lines rest later more
+read_next frameworks lines left rest groups later script more told h next fits among after commands used =
     let r = h.are_read in
     let groups_are = r.groups_are in
     record {
@@ -62,17 +85,21 @@ read_next lines left rest groups later script more told h next fits after comman
         commands = commands ∙ ap (λ c. c ++ told_at told (groups told.session)) r.commands
             ∙ ap (λ g. commands_of no_groups r.read ++ told_at told (g told.session)) groups_are
             ∙ sym (commands_more no_groups r.read told);
+        uses = used ∙ ap (λ uses. uses ++ used_at told) r.uses ∙ sym (uses_more r.read told);
+        among = subst (AreAmong frameworks) (sym (uses_more r.read told))
+            (both_among frameworks (uses_of r.read) (used_at told) r.among among);
       };
     }
 
-pub read_all : (lines left : List LineText) (groups : Groups) (script : List ScriptLine)
-    → HasRead lines left groups script → left ≡ [] → AreRead lines groups script
-read_all lines left groups script h e =
-    subst (λ ls. AreRead ls groups script) (sym (h.lines_are ∙ ap (λ ls. h.before ++ ls) e ∙ append-nil h.before))
-    h.are_read
+pub read_all : (frameworks : ℕ) (lines left : List LineText) (groups : Groups) (script : Script)
+    → HasRead frameworks lines left groups script → left ≡ [] → AreRead frameworks lines groups script
+read_all frameworks lines left groups script h e =
+    subst (λ ls. AreRead frameworks ls groups script)
+    (sym (h.lines_are ∙ ap (λ ls. h.before ++ ls) e ∙ append-nil h.before)) h.are_read
 
-pub breaks_at : (lines left : List LineText) (groups : Groups) (script : List ScriptLine) (fault : ScriptFault)
-    → HasRead lines left groups script → StopsAt groups left fault → BreaksAt lines fault
-breaks_at lines left groups script (At number cause) h stops =
+pub breaks_at : (frameworks : ℕ) (lines left : List LineText) (groups : Groups) (script : Script)
+    (fault : ScriptFault) → HasRead frameworks lines left groups script → StopsAt frameworks groups left fault
+    → BreaksAt frameworks lines fault
+breaks_at frameworks lines left groups script (At number cause) h stops =
     record { left = left; groups = groups; script = script; has_read = h; bad = stops }
-breaks_at lines left groups script Memory h stops = tt
+breaks_at frameworks lines left groups script Memory h stops = tt

@@ -1,21 +1,21 @@
--- A group that is open, and what stands whether or not a call fails.
-use Rattle.std.proofs.Common.{◌≡◌, ℕ, ◌<◌, true, List, length, get_or, sym, ap, ◌∙◌, OnOk}
-use Rattle.std.specs.Prelude.{Option, Some, None, Result, Ok, Err, is_some}
-use Rattle.std.proofs.lemmas.Bool.{false≢true}
+-- A session inside a group, and what stands whether or not a call fails.
+use Rattle.std.proofs.Common.{◌≡◌, ℕ, ◌<◌, List, length, get_or, sym, ap, ◌∙◌, OnOk}
+use Rattle.std.specs.Prelude.{Result, Ok, Err}
 use Rattle.std.proofs.lemmas.List.{get_or_default}
 use Rattle.edit_rules.specs.declared.edit.Edit.{Edit}
+use Rattle.script_text.specs.declared.open_groups.Place.{Place}
+use Rattle.script_text.specs.declared.open_groups.Place.TheVariants.{Unbegun, Inside}
 use Rattle.script_text.specs.Sizes.{group_at}
 
 pub on_ok : {T E P : Type 0} (r : Result T E) → P → OnOk r P
 on_ok (Ok x) p = p
 on_ok (Err e) p = tt
 
-pub open_there : (slots groups : List (Option (List Edit))) (at : ℕ) (group : Option (List Edit)) → groups ≡ slots
-    → at < length groups → group ≡ get_or groups at group → is_some group ≡ true
-    → (s : ℕ) × (edits : List Edit) × (group_at slots s ≡ Some edits)
-open_there slots groups at None same within is opened = absurd (false≢true opened)
-open_there slots groups at (Some edits) same within is opened = (
+pub open_there : (slots groups : List Place) (at : ℕ) (place : Place) → groups ≡ slots
+    → at < length groups → place ≡ get_or groups at place → (edits : List Edit) × (place ≡ Inside edits)
+    → (s : ℕ) × (edits : List Edit) × (group_at slots s ≡ Inside edits)
+open_there slots groups at place same within is (edits, inside) = (
   at,
   edits,
-  ap (λ list. get_or list at None) (sym same) ∙ get_or_default groups at None (Some edits) within ∙ sym is,
+  ap (λ list. get_or list at Unbegun) (sym same) ∙ get_or_default groups at Unbegun place within ∙ sym is ∙ inside,
 )

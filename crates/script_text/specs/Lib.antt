@@ -1,6 +1,9 @@
 pub mod Changes
 pub mod Groups
+pub mod ListSteps
+pub mod Lists
 pub mod ScriptFaults
 pub mod ScriptText
 pub mod Sizes
 pub mod Steps
+pub mod Uses

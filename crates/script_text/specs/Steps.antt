@@ -1,23 +1,25 @@
 -- How reading goes on from field to field and from line to line.
-use Rattle.std.specs.Prelude.{◌≡◌, ◌⊎◌, ℕ, ◌≤◌, List, ◌∷◌, ◌++◌, Option, Some, None, length}
+use Rattle.std.specs.Prelude.{◌≡◌, ◌⊎◌, ℕ, ◌≤◌, List, ◌∷◌, ◌++◌, length}
 use Rattle.num_text.specs.Cuts.{LineText, field_texts}
 use Rattle.edit_rules.specs.declared.edit.Edit.{Edit}
 use Rattle.edit_rules.specs.declared.edit.TheConstants.{MAX_GROUP}
 use Rattle.script_text.specs.declared.fault.LineStop.{LineStop}
 use Rattle.script_text.specs.declared.fault.LineStop.TheVariants.{Wrong, Memory}
 use Rattle.script_text.specs.declared.fault.ScriptCause.{ScriptCause}
-use Rattle.script_text.specs.declared.fault.ScriptCause.TheVariants.{BadCommand, EmptyGroup, GroupTooLong}
+use Rattle.script_text.specs.declared.fault.ScriptCause.TheVariants.{BadCommand, BadFramework, EmptyGroup, GroupTooLong}
 use Rattle.script_text.specs.declared.fault.ScriptFault.{ScriptFault}
 use Rattle.script_text.specs.declared.fault.ScriptFault.TheVariants.{At, Memory as Refused}
 use Rattle.script_text.specs.declared.open_groups.OpenGroups.{OpenGroups}
-use Rattle.script_text.specs.declared.script.ScriptLine.{ScriptLine}
+use Rattle.script_text.specs.declared.open_groups.Place.TheVariants.{Inside}
+use Rattle.script_text.specs.declared.script.Script.{Script}
 use Rattle.script_text.specs.declared.text_line.LineCommand.{LineCommand}
-use Rattle.script_text.specs.declared.text_line.LineCommand.TheVariants.{Ask, Begin, Edit as change_by, End}
+use Rattle.script_text.specs.declared.text_line.LineCommand.TheVariants.{Ask, Begin, Edit as change_by, End, Use as on}
 use Rattle.script_text.specs.declared.text_line.TextLine.{TextLine}
 use Rattle.script_text.specs.Groups.{FitGroups, FitsGroup, Groups, after_lines, commands_of, no_groups}
-use Rattle.script_text.specs.ScriptFaults.{IsFirstCause, StandsByGroup, StandsOn}
+use Rattle.script_text.specs.ScriptFaults.{IsFirstCause, StandsAmong, StandsByGroup, StandsOn}
 use Rattle.script_text.specs.ScriptText.{AreTextLines, IsTextLine, SpellsSession}
 use Rattle.script_text.specs.Sizes.{group_at}
+use Rattle.script_text.specs.Uses.{AreAmong, used_at, uses_of}
 
 -- where the line is wrong, its cause is one of which P holds
 abbrev pub IfWrong : LineStop → (ScriptCause → Type 0) → Type 0
@@ -41,16 +43,11 @@ pub record TellsNext (before after : List LineText) (told : TextLine) : Type 0 w
 abbrev pub groups_of : OpenGroups → Groups
 groups_of open_groups s = group_at open_groups.groups.items s
 
--- how many edits the group has, where one is open
-abbrev pub edit_count : Option (List Edit) → Option ℕ
-edit_count None = None
-edit_count (Some edits) = Some (length edits)
-
 -- a line, by its parts
 abbrev pub line_by : ℕ → LineCommand → TextLine
 line_by session command = record { session = session; command = command }
 
--- the line may stand where these groups are open
+-- the line may stand where the sessions stand so
 abbrev pub FitsIn : Groups → TextLine → Type 0
 FitsIn groups line = FitsGroup line.command (groups line.session)
 
@@ -60,58 +57,71 @@ BreaksLimit (change_by edit) count cause = (MAX_GROUP ≤ count) × (cause ≡ G
 BreaksLimit (Ask asked) count cause = ⊥
 BreaksLimit Begin count cause = ⊥
 BreaksLimit End count cause = (count ≡ 0) × (cause ≡ EmptyGroup)
+BreaksLimit (on framework) count cause = ⊥
 
 -- the cause is that of a line by the number of edits of its session's group
 pub record BreaksIn (groups : Groups) (line : TextLine) (cause : ScriptCause) : Type 0 where
   pub edits : List Edit
-  pub opened : groups line.session ≡ Some edits
+  pub opened : groups line.session ≡ Inside edits
   pub breaks : BreaksLimit line.command (length edits) cause
 
 abbrev pub IsMisplacedIn : Groups → List (List ℕ) → Type 0
 IsMisplacedIn groups fields = StandsByGroup groups fields BadCommand
 
--- the cause is told of a line's fields, where these groups are open
-abbrev pub IsFirstIn : Groups → List (List ℕ) → ScriptCause → Type 0
-IsFirstIn groups fields cause = IsFirstCause (λ c. StandsOn fields c ⊎ StandsByGroup groups fields c) cause
+-- the cause stands on a line's fields, where there are so many frameworks and the sessions stand so
+abbrev pub StandsIn : ℕ → Groups → List (List ℕ) → ScriptCause → Type 0
+StandsIn frameworks groups fields cause =
+    StandsOn fields cause ⊎ (StandsByGroup groups fields cause ⊎ StandsAmong frameworks fields cause)
+
+-- the cause is told of them
+abbrev pub IsFirstIn : ℕ → Groups → List (List ℕ) → ScriptCause → Type 0
+IsFirstIn frameworks groups fields cause = IsFirstCause (StandsIn frameworks groups fields) cause
+
+-- the cause is that of a line whose framework is none of so many
+abbrev pub IsStrayIn : ℕ → TextLine → ScriptCause → Type 0
+IsStrayIn frameworks line cause = (cause ≡ BadFramework) × ¬ AreAmong frameworks (used_at line)
 
 -- ---- lines
 
 -- the next line has this number, and the cause is told of it
-pub record IsNextFault (groups : Groups) (lines : List LineText) (number : ℕ) (cause : ScriptCause) : Type 0 where
+pub record IsNextFault (frameworks : ℕ) (groups : Groups) (lines : List LineText) (number : ℕ) (cause : ScriptCause)
+    : Type 0 where
   pub line : LineText
   pub others : List LineText
   pub lines_are : lines ≡ line ∷ others
   pub number_is : number ≡ line.number
-  pub told : IsFirstIn groups (field_texts line.text) cause
+  pub told : IsFirstIn frameworks groups (field_texts line.text) cause
 
 -- where the fault is that of a line, it is that of the next one
-abbrev pub StopsAt : Groups → List LineText → ScriptFault → Type 0
-StopsAt groups lines (At number cause) = IsNextFault groups lines number cause
-StopsAt groups lines Refused = Unit {0}
+abbrev pub StopsAt : ℕ → Groups → List LineText → ScriptFault → Type 0
+StopsAt frameworks groups lines (At number cause) = IsNextFault frameworks groups lines number cause
+StopsAt frameworks groups lines Refused = Unit {0}
 
--- the lines are these, of which each may stand where it does, and these commands; they leave these groups open
-pub record AreRead (lines : List LineText) (groups : Groups) (script : List ScriptLine) : Type 0 where
+-- the lines are these, of which each may stand where it does, and this script; they leave the sessions so
+pub record AreRead (frameworks : ℕ) (lines : List LineText) (groups : Groups) (script : Script) : Type 0 where
   pub read : List TextLine
   pub are_lines : AreTextLines lines read
   pub fit : FitGroups no_groups read
   pub groups_are : groups ≡ after_lines read no_groups
-  pub commands : script ≡ commands_of no_groups read
+  pub commands : script.lines ≡ commands_of no_groups read
+  pub uses : script.uses ≡ uses_of read
+  pub among : AreAmong frameworks (uses_of read)
 
 -- the lines are some that were read, with what they left, and those that are left to read
-pub record HasRead (lines left : List LineText) (groups : Groups) (script : List ScriptLine) : Type 0 where
+pub record HasRead (frameworks : ℕ) (lines left : List LineText) (groups : Groups) (script : Script) : Type 0 where
   pub before : List LineText
   pub lines_are : lines ≡ before ++ left
-  pub are_read : AreRead before groups script
+  pub are_read : AreRead frameworks before groups script
 
 -- the first line that may not stand where it does has this number, and the cause is told of it
-pub record IsFirstBadLine (lines : List LineText) (number : ℕ) (cause : ScriptCause) : Type 0 where
+pub record IsFirstBadLine (frameworks : ℕ) (lines : List LineText) (number : ℕ) (cause : ScriptCause) : Type 0 where
   pub left : List LineText
   pub groups : Groups
-  pub script : List ScriptLine
-  pub has_read : HasRead lines left groups script
-  pub bad : IsNextFault groups left number cause
+  pub script : Script
+  pub has_read : HasRead frameworks lines left groups script
+  pub bad : IsNextFault frameworks groups left number cause
 
 -- where the fault is that of a line, it is that of the first bad one
-abbrev pub BreaksAt : List LineText → ScriptFault → Type 0
-BreaksAt lines (At number cause) = IsFirstBadLine lines number cause
-BreaksAt lines Refused = Unit {0}
+abbrev pub BreaksAt : ℕ → List LineText → ScriptFault → Type 0
+BreaksAt frameworks lines (At number cause) = IsFirstBadLine frameworks lines number cause
+BreaksAt frameworks lines Refused = Unit {0}

@@ -12,7 +12,7 @@ pub enum ScriptCause {
     /// The first field is no number from 1 to 8.
     BadSession,
     /// The fields behind it begin with the name of no command, or too many or too few fields follow the name, or `ask`
-    /// or `begin` stands inside a group of the session, or `end` outside one.
+    /// or `begin` stands inside a group of the session, or `end` outside one, or `use` behind a line of the session.
     BadCommand,
     /// What is asked is no task's name.
     BadTask,
@@ -26,6 +26,8 @@ pub enum ScriptCause {
     GroupTooLong,
     /// A group has no edit: it is told at its end.
     EmptyGroup,
+    /// The framework that a session uses is none of those that there are.
+    BadFramework,
 }
 
 impl ScriptCause {
@@ -42,6 +44,7 @@ impl ScriptCause {
             ScriptCause::OpenGroup => "OpenGroup",
             ScriptCause::GroupTooLong => "GroupTooLong",
             ScriptCause::EmptyGroup => "EmptyGroup",
+            ScriptCause::BadFramework => "BadFramework",
         }
     }
 }

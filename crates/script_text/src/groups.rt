@@ -1,47 +1,56 @@
 //! How lines open, fill and end the groups of edits of a script.
 
-ghost use Rattle.std.specs.Prelude.{◌≡◌, ◌↔◌, ◌<◌, ◌≤◌, ◌+◌, ◌==◌, ◌++◌, ◌∷◌, [], ℕ, List, Some, None, IfOk, OnOk};
+ghost use Rattle.std.specs.Prelude.{◌≡◌, ◌↔◌, ◌<◌, ◌≤◌, ◌+◌, ◌==◌, ◌++◌, ◌∷◌, [], ℕ, List, IfOk, OnOk};
 ghost use Rattle.std.specs.Prelude.{IsTrue, false};
 ghost use Rattle.std.specs.Prelude.{if◌then◌else◌, length};
 ghost use Rattle.edit_rules.specs.declared.edit.Edit.{Edit as AnEdit};
+ghost use Rattle.script_text.specs.declared.open_groups.Place.TheVariants.{Unbegun, Inside};
 ghost use Rattle.script_text.specs.declared.script.ScriptCommand.TheVariants.{Edit as changes};
-ghost use Rattle.script_text.specs.declared.text_line.LineCommand.TheVariants.{Begin, Edit as change_by, End};
-ghost use Rattle.script_text.specs.Groups.{after_line, is_open, no_groups, told_at};
+ghost use Rattle.script_text.specs.declared.text_line.LineCommand.TheVariants.{Ask as asks, Begin, Edit as change_by, End, Use as on};
+ghost use Rattle.script_text.specs.Groups.{after_line, no_groups, told_at};
 ghost use Rattle.script_text.specs.Sizes.{AreSmall, group_at};
-ghost use Rattle.script_text.specs.Steps.{FitsIn, edit_count, groups_of, line_by};
+ghost use Rattle.script_text.specs.Steps.{FitsIn, groups_of, line_by};
+ghost use Rattle.script_text.specs.Uses.{used_at};
 
-use crate::open_groups::OpenGroups;
-use crate::script::{Group, MAX_SESSIONS, ScriptCommand, ScriptLine};
+use crate::open_groups::{OpenGroups, Place};
+use crate::script::{Group, MAX_SESSIONS, Script, ScriptCommand, ScriptLine, ScriptUse};
 use crate::text_line::{LineCommand, TextLine};
 use edit_rules::Edit;
+use iccma_tasks::Query;
 use lists::{Items, Memory};
 use std::alloc::Global;
 use std::mem::replace;
 
-// No group for each session.
-fn none_open(alloc: Global) -> Result<Vec<Option<Items<Edit>>>, Memory>
+// No line of any session so far.
+fn none_begun(alloc: Global) -> Result<Vec<Place>, Memory>
     ensures long { IfOk result (λ groups. length groups.items ≡ MAX_SESSIONS + 1) }
-    ensures none { IfOk result (λ groups. (s : ℕ) → group_at groups.items s ≡ None) }
+    ensures none { IfOk result (λ groups. (s : ℕ) → group_at groups.items s ≡ Unbegun) }
 {
     let mut groups = Vec::new(alloc);
     'sessions: while groups.len() <= MAX_SESSIONS as usize {
-        groups.push(None)?;
+        groups.push(Place::Unbegun)?;
     }
     Ok(groups)
 }
 
-// Puts a group in the place of another, and gives the other.
-fn replace_at(
-    groups: &mut Vec<Option<Items<Edit>>>,
-    at: usize,
-    group: Option<Items<Edit>>,
-) -> Option<Items<Edit>>
+// Says where a session stands now, and gives where it stood.
+fn replace_at(groups: &mut Vec<Place>, at: usize, place: Place) -> Place
     requires { at < length groups.old.items }
     ensures long { length groups.new.items ≡ length groups.old.items }
     ensures given { result ≡ group_at groups.old.items at }
-    ensures put { (s : ℕ) → group_at groups.new.items s ≡ (if s == at then group else group_at groups.old.items s) }
+    ensures put { (s : ℕ) → group_at groups.new.items s ≡ (if s == at then place else group_at groups.old.items s) }
 {
-    replace(&mut groups[at], group)
+    replace(&mut groups[at], place)
+}
+
+// Whether a session is inside a group.
+fn is_inside(place: &Place) -> bool
+    ensures { IsTrue result ↔ ((edits : List AnEdit) × (place.now ≡ Inside edits)) }
+{
+    match place {
+        Place::Inside(_) => true,
+        _ => false,
+    }
 }
 
 // The edits and another one.
@@ -61,73 +70,95 @@ fn single(alloc: Global, edit: Edit) -> Result<ScriptCommand, Memory>
 }
 
 impl OpenGroups {
-    /// No group is open.
+    /// No session has had a line.
     pub(crate) fn new(alloc: Global) -> Result<OpenGroups, Memory>
         ensures { IfOk result (λ groups. groups_of groups ≡ no_groups) }
     {
         Ok(OpenGroups {
-            groups: none_open(alloc)?,
+            groups: none_begun(alloc)?,
         })
     }
 
-    /// Whether the session has a group open.
-    pub(crate) fn is_open(&self, session: u32) -> bool
+    /// Where the session stands.
+    pub(crate) fn place(&self, session: u32) -> &Place
         requires { session ≤ MAX_SESSIONS }
-        ensures { result ≡ is_open (groups_of self.now session) }
-    {
-        self.count(session).is_some()
-    }
-
-    /// How many edits the session's group has so far, if one is open.
-    pub(crate) fn count(&self, session: u32) -> Option<usize>
-        requires { session ≤ MAX_SESSIONS }
-        ensures { result ≡ edit_count (groups_of self.now session) }
+        ensures { result.now ≡ groups_of self.now session }
     {
         let groups = self.groups.as_slice();
-        match &groups[session as usize] {
-            Some(edits) => Some(edits.len()),
-            None => None,
-        }
+        &groups[session as usize]
     }
 
     /// Whether any session has a group open.
     pub(crate) fn is_any_open(&self) -> bool
-        ensures { IsTrue result ↔ ((s : ℕ) × (edits : List AnEdit) × (groups_of self.now s ≡ Some edits)) }
+        ensures { IsTrue result ↔ ((s : ℕ) × (edits : List AnEdit) × (groups_of self.now s ≡ Inside edits)) }
     {
         let groups = self.groups.as_slice();
         for group in groups {
-            if group.is_some() {
+            if is_inside(group) {
                 return true;
             }
         }
         false
     }
 
-    /// Takes in a line that may stand here. The command that ends there, if one does, joins the others.
+    /// Takes in a line that may stand here. The command that ends there, if one does, joins the others, and so does the use
+    /// that it is.
     pub(crate) fn take(
         &mut self,
         alloc: Global,
         line: TextLine,
-        script: &mut Items<ScriptLine>,
+        script: &mut Script,
     ) -> Result<(), Memory>
         requires session { line.session ≤ MAX_SESSIONS }
         requires fits { FitsIn (groups_of self.old) line }
         ensures after { OnOk result (groups_of self.new ≡ after_line line (groups_of self.old)) }
-        ensures told { OnOk result (script.new ≡ script.old ++ told_at line (groups_of self.old line.session)) }
+        ensures told { OnOk result
+            (script.new.lines ≡ script.old.lines ++ told_at line (groups_of self.old line.session)) }
+        ensures used { OnOk result (script.new.uses ≡ script.old.uses ++ used_at line) }
     {
         let TextLine { session, command } = line;
         match command {
-            LineCommand::Edit(edit) => self.take_edit(alloc, session, edit, script),
-            LineCommand::Ask(query) => {
-                let command = ScriptCommand::Ask(query);
-                script.push(ScriptLine { session, command })
-            }
+            LineCommand::Edit(edit) => self.take_edit(alloc, session, edit, &mut script.lines),
+            LineCommand::Ask(query) => self.ask(session, query, &mut script.lines),
             LineCommand::Begin => {
                 self.begin(alloc, session);
                 Ok(())
             }
-            LineCommand::End => self.end(session, script),
+            LineCommand::End => self.end(session, &mut script.lines),
+            LineCommand::Use(framework) => self.put_on(session, framework, &mut script.uses),
         }
+    }
+
+    // A query is a command of its own.
+    fn ask(
+        &mut self,
+        session: u32,
+        query: Query,
+        script: &mut Items<ScriptLine>,
+    ) -> Result<(), Memory>
+        requires { session ≤ MAX_SESSIONS }
+        ensures after { groups_of self.new ≡ after_line (line_by session (asks query)) (groups_of self.old) }
+        ensures told { OnOk result (script.new
+            ≡ script.old ++ told_at (line_by session (asks query)) (groups_of self.old session)) }
+    {
+        replace_at(&mut self.groups, session as usize, Place::Between);
+        let command = ScriptCommand::Ask(query);
+        script.push(ScriptLine { session, command })
+    }
+
+    // A session is put on a framework.
+    fn put_on(
+        &mut self,
+        session: u32,
+        framework: u32,
+        uses: &mut Items<ScriptUse>,
+    ) -> Result<(), Memory>
+        requires { session ≤ MAX_SESSIONS }
+        ensures after { groups_of self.new ≡ after_line (line_by session (on framework)) (groups_of self.old) }
+        ensures used { OnOk result (uses.new ≡ uses.old ++ used_at (line_by session (on framework))) }
+    {
+        replace_at(&mut self.groups, session as usize, Place::Between);
+        uses.push(ScriptUse { session, framework })
     }
 
     // An edit joins its session's group, or is a command of its own.
@@ -145,13 +176,13 @@ impl OpenGroups {
         ensures told { OnOk result (script.new
             ≡ script.old ++ told_at (line_by session (change_by edit)) (groups_of self.old session)) }
     {
-        match replace_at(&mut self.groups, session as usize, None) {
-            Some(edits) => {
+        match replace_at(&mut self.groups, session as usize, Place::Between) {
+            Place::Inside(edits) => {
                 let more = with_edit(edits, edit)?;
-                replace_at(&mut self.groups, session as usize, Some(more));
+                replace_at(&mut self.groups, session as usize, Place::Inside(more));
                 Ok(())
             }
-            None => {
+            Place::Unbegun | Place::Between => {
                 let command = single(alloc, edit)?;
                 script.push(ScriptLine { session, command })
             }
@@ -163,7 +194,7 @@ impl OpenGroups {
         requires { session ≤ MAX_SESSIONS }
         ensures { groups_of self.new ≡ after_line (line_by session Begin) (groups_of self.old) }
     {
-        replace_at(&mut self.groups, session as usize, Some(Items::new(alloc)));
+        replace_at(&mut self.groups, session as usize, Place::Inside(Items::new(alloc)));
     }
 
     // A group ends, and is a command.
@@ -174,12 +205,12 @@ impl OpenGroups {
         ensures told { OnOk result (script.new
             ≡ script.old ++ told_at (line_by session End) (groups_of self.old session)) }
     {
-        match replace_at(&mut self.groups, session as usize, None) {
-            Some(edits) => {
+        match replace_at(&mut self.groups, session as usize, Place::Between) {
+            Place::Inside(edits) => {
                 let command = ScriptCommand::Edit(Group::new(edits), true);
                 script.push(ScriptLine { session, command })
             }
-            None => Ok(()),
+            Place::Unbegun | Place::Between => Ok(()),
         }
     }
 }

@@ -2,6 +2,7 @@
 
 ghost use Rattle.std.specs.Prelude.{◌≡◌};
 ghost use Rattle.script_text.specs.Sizes.{HasGroupSize};
+ghost use Rattle.script_text.specs.Uses.{use_of};
 
 use edit_rules::Edit;
 use iccma_tasks::Query;
@@ -66,9 +67,32 @@ pub struct ScriptLine {
     pub command: ScriptCommand,
 }
 
+/// Which framework a session is on.
+#[derive(Drop, Clone, Copy)]
+pub struct ScriptUse {
+    /// The session, from 1 to [`MAX_SESSIONS`].
+    pub session: u32,
+    /// The number of its framework.
+    pub framework: u32,
+}
+
 /// The commands of a script, each where its last line stands. Each session does its own in this order.
 #[derive(Drop)]
 pub struct Script {
     /// The commands.
     pub lines: Items<ScriptLine>,
+    /// What the lines `S use K` say, in order. A session without such a line is on framework 1.
+    pub uses: Items<ScriptUse>,
+}
+
+/// The framework of a session: that of its first use, or 1 where it has none.
+pub fn framework_of_session(uses: &[ScriptUse], session: u32) -> u32
+    ensures { result ≡ use_of uses.now session }
+{
+    for one in uses {
+        if one.session == session {
+            return one.framework;
+        }
+    }
+    1
 }

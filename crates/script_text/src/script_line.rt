@@ -13,6 +13,7 @@ use crate::edit_word::EditWord;
 use crate::fault::{LineStop, ScriptCause};
 use crate::script::MAX_SESSIONS;
 use crate::text_line::{LineCommand, TextLine};
+use crate::use_line::framework_of;
 use num_text::{Fields, Line, fields};
 use std::alloc::Global;
 
@@ -59,6 +60,9 @@ fn command_of(alloc: Global, mut parts: Fields<'_>) -> Result<LineCommand, LineS
     if name == "end".as_bytes() {
         nothing_left(&mut parts)?;
         return Ok(LineCommand::End);
+    }
+    if name == "use".as_bytes() {
+        return Ok(LineCommand::Use(framework_of(alloc, parts)?));
     }
     let change = EditWord::read(name).ok_or(ScriptCause::BadCommand)?;
     Ok(LineCommand::Edit(edit_of(alloc, change, parts)?))

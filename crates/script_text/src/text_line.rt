@@ -14,6 +14,8 @@ pub enum LineCommand {
     Begin,
     /// It ends.
     End,
+    /// The session is on the framework of this number.
+    Use(u32),
 }
 
 /// A line that isn't skipped.
