@@ -165,7 +165,7 @@ misplaced_told frameworks groups fields g =
     record {
       stands = inr (inl g);
       first = λ other stands. elim stands [
-        | inl on ↦ behind_session fields session other on
+        | inl own ↦ behind_session fields session other own
         | inr (inl by) ↦ of_group (groups by.session) by.others other by.stands
         | inr (inr among) ↦ let last = last_of_all frameworks fields other among in omega (arith, last)
       ];
@@ -179,7 +179,7 @@ field_told frameworks groups fields cause placed told =
     record {
       stands = inl told.stands;
       first = λ other stands. elim stands [
-        | inl on ↦ told.first other on
+        | inl own ↦ told.first other own
         | inr (inl by) ↦ let late = of_length groups fields placed other by in omega (arith, late, soon)
         | inr (inr among) ↦ let last = last_of_all frameworks fields other among in omega (arith, last, soon)
       ];
@@ -216,7 +216,7 @@ limit_first frameworks groups fields others session (change_by edit) edits cause
       stands = inr (inl (stands_by groups fields others session GroupTooLong takes
           (subst (λ group. StandsInGroup group others GroupTooLong) (sym opened) (edit_form others edit are, breaks.0))));
       first = λ other stands. elim stands [
-        | inl on ↦ absurd (good other on)
+        | inl own ↦ absurd (good other own)
         | inr (inl by) ↦ of_length groups fields placed other by
         | inr (inr among) ↦ let last = last_of_all frameworks fields other among in omega (arith, last)
       ];
@@ -232,7 +232,7 @@ limit_first frameworks groups fields others session End edits cause takes are pl
       stands = inr (inl (stands_by groups fields others session EmptyGroup takes
           (are, opened ∙ ap Inside (no_edits edits breaks.0))));
       first = λ other stands. elim stands [
-        | inl on ↦ absurd (good other on)
+        | inl own ↦ absurd (good other own)
         | inr (inl by) ↦ at_end other by
         | inr (inr among) ↦ let last = last_of_all frameworks fields other among in omega (arith, last)
       ];

@@ -1,9 +1,9 @@
 -- The names of a list, and its first fault.
 use Rattle.std.proofs.Common.{◌≡◌, ℕ, ◌+◌, ◌<◌, ◌≤◌, List, [], ◌∷◌, ◌++◌, length}
-use Rattle.std.proofs.Common.{refl, sym, ap, subst, ◌∙◌, inl, inr, arith}
+use Rattle.std.proofs.Common.{map, refl, sym, ap, subst, ◌∙◌, inl, inr, arith}
 use Rattle.std.specs.List.{AllZip}
 use Rattle.std.specs.Str.{IsUtf8}
-use Rattle.std.proofs.lemmas.List.{append_assoc, append-nil, length-append}
+use Rattle.std.proofs.lemmas.List.{append_assoc, append-nil, length-append, length-map, map-append}
 use Rattle.std.proofs.lemmas.Slice.Zip.{AllZip-long, all_zipped_more}
 use Rattle.num_text.specs.Cuts.{LineText, field_texts, lines_of}
 use Rattle.num_text.specs.Lines.{kept_lines}
@@ -75,6 +75,19 @@ names_next lines left rest names line name h e is room =
         few = omega (arith, long, room);
       };
     }
+
+-- where the names are those of items
+pub items_next : {A : Type 0} (f : A → List ℕ) (lines left rest : List LineText) (items more : List A) (line : LineText)
+    (item : A) → HaveNames lines left (map f items) → left ≡ line ∷ rest → IsNameLine line.text (f item)
+    → length items < MAX_FRAMEWORKS → more ≡ items ++ item ∷ [] → HaveNames lines rest (map f more)
+items_next f lines left rest items more line item h e is room more_is =
+    let long = length-map items f in
+    subst (HaveNames lines rest) (sym (ap (map f) more_is ∙ map-append f items (item ∷ [])))
+    (names_next lines left rest (map f items) line (f item) h e is (omega (arith, long, room)))
+
+pub some_name : {A : Type 0} (f : A → List ℕ) (items : List A) → (items ≡ [] → ⊥) → 1 ≤ length (map f items)
+some_name f [] some = absurd (some refl)
+some_name f (item ∷ items) some = omega arith
 
 pub names_all : (lines left : List LineText) (names : List (List ℕ)) → HaveNames lines left names → left ≡ []
     → AreNames lines names

@@ -194,7 +194,11 @@ impl OpenGroups {
         requires { session ≤ MAX_SESSIONS }
         ensures { groups_of self.new ≡ after_line (line_by session Begin) (groups_of self.old) }
     {
-        replace_at(&mut self.groups, session as usize, Place::Inside(Items::new(alloc)));
+        replace_at(
+            &mut self.groups,
+            session as usize,
+            Place::Inside(Items::new(alloc)),
+        );
     }
 
     // A group ends, and is a command.

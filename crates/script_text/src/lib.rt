@@ -23,6 +23,8 @@ mod use_line;
 
 pub use edit_word::EditWord;
 pub use fault::{ScriptCause, ScriptFault};
-pub use read::read_script;
 pub use list::{ListCause, ListFault, MAX_FRAMEWORKS, read_list};
-pub use script::{Group, MAX_SESSIONS, Script, ScriptCommand, ScriptLine, ScriptUse, framework_of_session};
+pub use read::read_script;
+pub use script::{
+    Group, MAX_SESSIONS, Script, ScriptCommand, ScriptLine, ScriptUse, framework_of_session,
+};
