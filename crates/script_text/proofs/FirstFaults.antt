@@ -19,7 +19,7 @@ use Rattle.script_text.specs.declared.script.Script.{Script}
 use Rattle.script_text.specs.declared.text_line.TextLine.{TextLine}
 use Rattle.script_text.specs.Groups.{FitGroups, Groups, after_line, after_lines, no_groups}
 use Rattle.script_text.specs.ScriptFaults.{rank, IsFaultless, IsFirstFault, IsToldOf, StandsAt}
-use Rattle.script_text.specs.ScriptFaults.{StandsAmong, StandsBehind, StandsByGroup, StandsThere}
+use Rattle.script_text.specs.ScriptFaults.{StandsBehind, StandsByGroup, StandsThere}
 use Rattle.script_text.specs.ScriptText.{AreTextLines, IsScript, IsTextLine}
 use Rattle.script_text.specs.Steps.{AreRead, BreaksAt, FitsIn, IsFirstBadLine, StandsIn}
 use Rattle.script_text.specs.Uses.{AreAmong, used_at, uses_of}

@@ -1,7 +1,6 @@
 -- The names of a list, and its first fault.
 use Rattle.std.proofs.Common.{◌≡◌, ℕ, ◌+◌, ◌<◌, ◌≤◌, List, [], ◌∷◌, ◌++◌, length}
 use Rattle.std.proofs.Common.{map, refl, sym, ap, subst, ◌∙◌, inl, inr, arith}
-use Rattle.std.specs.List.{AllZip}
 use Rattle.std.specs.Str.{IsUtf8}
 use Rattle.std.proofs.lemmas.List.{append_assoc, append-nil, length-append, length-map, map-append}
 use Rattle.std.proofs.lemmas.Slice.Zip.{AllZip-long, all_zipped_more}
@@ -17,7 +16,7 @@ use Rattle.script_text.specs.Lists.{AreNameLines, IsFirstListFault, IsList, IsLi
 use Rattle.script_text.specs.Lists.{StandsAtName, StandsOnName, list_rank}
 use Rattle.script_text.specs.ListSteps.{AreNames, BreaksList, HaveNames, IsFirstBadName, IsToldName, StopsList}
 use Rattle.script_text.proofs.CommandCauses.{first_same}
-use Rattle.script_text.proofs.FirstFaults.{IsBefore, IsSame, number_within, numbers_differ, places}
+use Rattle.script_text.proofs.FirstFaults.{numbers_differ, places}
 use Rattle.lists.proofs.Zips.{zip_same}
 
 -- ---- a line

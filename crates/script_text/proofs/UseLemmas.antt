@@ -7,7 +7,6 @@ use Rattle.num_text.specs.Cuts.{field_texts}
 use Rattle.num_text.specs.Number.{IsNumber}
 use Rattle.iccma_tasks.specs.AnswerText.{behind_first}
 use Rattle.script_text.specs.declared.fault.ScriptCause.{ScriptCause}
-use Rattle.script_text.specs.declared.fault.ScriptCause.TheVariants.{BadFramework}
 use Rattle.script_text.specs.declared.script.ScriptUse.{ScriptUse}
 use Rattle.script_text.specs.declared.text_line.LineCommand.{LineCommand}
 use Rattle.script_text.specs.declared.text_line.LineCommand.TheVariants.{Ask, Begin, Edit as change_by, End, Use as on}
@@ -16,7 +15,7 @@ use Rattle.script_text.specs.Groups.{Groups}
 use Rattle.script_text.specs.ScriptFaults.{rank, HaveStrayUse}
 use Rattle.script_text.specs.ScriptText.{AreCommandFields, IsTextLine}
 use Rattle.script_text.specs.Steps.{FitsIn, IsFirstIn, IsStrayIn}
-use Rattle.script_text.specs.Uses.{AreAmong, IsAmong, use_of, used_at, used_by, uses_of}
+use Rattle.script_text.specs.Uses.{AreAmong, IsAmong, use_of, used_at, used_by}
 use Rattle.script_text.proofs.GroupCauses.{fitting_is_good}
 use Rattle.script_text.proofs.LineCauses.{line_is_good}
 use Rattle.script_text.proofs.OneScript.{command_same}

@@ -1,7 +1,6 @@
 -- Where the sessions of a script stand, and their groups of edits: each stands between the lines `S begin` and `S end`, and
 -- lines of other sessions may stand among its own.
 use Rattle.std.specs.Prelude.{ℕ, ◌==◌, ◌<◌, true, false, List, [], ◌∷◌, ◌++◌, length, map, if◌then◌else◌}
-use Rattle.edit_rules.specs.declared.edit.Edit.{Edit}
 use Rattle.edit_rules.specs.declared.edit.TheConstants.{MAX_GROUP}
 use Rattle.script_text.specs.declared.open_groups.Place.{Place}
 use Rattle.script_text.specs.declared.open_groups.Place.TheVariants.{Unbegun, Between, Inside}

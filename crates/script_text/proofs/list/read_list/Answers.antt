@@ -1,4 +1,4 @@
-use Rattle.std.proofs.Common.{length, map, refl, sym, ap, subst, rules, ◌∙◌}
+use Rattle.std.proofs.Common.{length, map, refl, ap, subst, rules}
 use Rattle.std.proofs.lemmas.Bool.{false≢true}
 use Rattle.std.specs.String.{string_bytes}
 use Rattle.num_text.specs.Lines.{kept}
