@@ -28,9 +28,9 @@ use Rattle.argue_commands.proofs.CheckLemmas.{framework_sound}
 
 -- ---- texts
 
-pub script_sound : (bytes : List ℕ) (s : Script) → IsScript bytes s → IsSoundIn role.Script bytes
+pub script_sound : (bytes : List ℕ) (s : Script) → IsScript 1 bytes s → IsSoundIn role.Script bytes
 script_sound bytes s reads line (cause.Script c) first =
-    (script_is_faultless bytes s reads).none line c first.stands
+    (script_is_faultless 1 bytes s reads).none line c first.stands
 script_sound bytes s reads line (cause.Framework c) first = first
 script_sound bytes s reads line (cause.Answer c) first = first
 script_sound bytes s reads line (cause.Certificate c) first = first
@@ -46,7 +46,7 @@ framework_fault_live bytes (fault.Line told) first = inl (refl, first)
 framework_fault_live bytes fault.Memory first = tt
 
 pub script_fault_live : (bytes : LiveBytes) (f : ScriptFault) (g : AnyFramework) → ReadsAs bytes.framework g
-    → IsToldOf bytes.script f → IsLiveFault bytes (script_status f)
+    → IsToldOf 1 bytes.script f → IsLiveFault bytes (script_status f)
 script_fault_live bytes (script_fault.At line c) g reads first = inr
     (refl, framework_sound bytes.framework g reads, first)
 script_fault_live bytes script_fault.Memory g reads first = tt

@@ -64,7 +64,7 @@ pub record HasBytes (known : KnownFile) (bytes : List ℕ) : Type 0 where
 -- refutation has them beside its CNF
 abbrev pub IsFirstFaultIn : Role → List ℕ → ℕ → FaultCause → Type 0
 IsFirstFaultIn (Framework k) bytes line (cause.Framework cause) = IsFirstFault bytes line cause
-IsFirstFaultIn OfScript bytes line (cause.Script cause) = IsFirstScriptFault bytes line cause
+IsFirstFaultIn OfScript bytes line (cause.Script cause) = IsFirstScriptFault 1 bytes line cause
 IsFirstFaultIn OfAnswer bytes line (cause.Answer cause) = IsFaultOf bytes line cause
 IsFirstFaultIn OfCertificate bytes line (cause.Certificate cause) = CertReadsAs bytes (Err (At line cause))
 IsFirstFaultIn OfCnf bytes line (cause.Cnf cause) = IsCnfFault bytes line cause
@@ -151,7 +151,7 @@ pub record IsFrameworkOf (known : KnownFile) (framework : AnyFramework) : Type 0
 pub record IsScriptOf (known : KnownFile) (script : Script) : Type 0 where
   pub bytes : List ℕ
   pub has : HasBytes known bytes
-  pub reads : IsScript bytes script
+  pub reads : IsScript 1 bytes script
 
 -- the status of a run whose framework, read in this role, has the fault
 abbrev pub status_of_fault : Role → FrameworkFault → Status

@@ -28,7 +28,7 @@ pub record HasLiveBytes (holds : List ℕ → KnownFile) (texts : LiveTexts) (by
 -- what the bytes read as
 pub record IsOpened (bytes : LiveBytes) (read : Opened) : Type 0 where
   pub of_framework : ReadsAs bytes.framework (framework_of read.framework)
-  pub of_script : IsScript bytes.script read.script
+  pub of_script : IsScript 1 bytes.script read.script
 
 -- what the files' bytes read as
 pub record OpensFiles (holds : List ℕ → KnownFile) (texts : LiveTexts) (read : Opened) : Type 0 where

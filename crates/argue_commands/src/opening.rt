@@ -82,7 +82,7 @@ fn parse(alloc: Global, bytes: &LiveBytes) -> Result<Opened, Status>
         Ok(framework) => framework,
         Err(fault) => return Err(refused(Role::Framework(1), fault)),
     };
-    match read_script(alloc, bytes.script.as_slice()) {
+    match read_script(alloc, bytes.script.as_slice(), 1) {
         Ok(script) => Ok(Opened { framework, script }),
         Err(fault) => Err(script_refused(fault)),
     }

@@ -474,8 +474,8 @@ module _ (found : Reading) (words : List (List ℕ)) (texts : LiveTexts) (budget
   same_script : (s : Script) → IsScriptOf (found.holds texts.script) s → s ≡ script
   same_script s is =
       let has = contents.of_script in
-      script_same has.bytes s script
-      (subst (λ bs. IsScript bs s) (bytes_at (found.holds texts.script) has.bytes is.bytes has.known is.has) is.reads)
+      script_same 1 has.bytes s script
+      (subst (λ bs. IsScript 1 bs s) (bytes_at (found.holds texts.script) has.bytes is.bytes has.known is.has) is.reads)
       has.reads
 
   neither_stops : (end : Status) → ¬ StopsAtFirst found end (live_inputs texts)
@@ -515,10 +515,10 @@ module _ (found : Reading) (words : List (List ℕ)) (texts : LiveTexts) (budget
   no_script : (end : Status) → EndsLive found.holds budget texts kept end → ¬ IsFaultyScript bytes
   no_script end lives faulty =
       let of = lives.runs.of_script in
-      let reads : IsScript bytes lives.runs.script =
-      subst (λ bs. IsScript bs lives.runs.script) (bytes_at (found.holds texts.script) bytes of.bytes asks.known of.has)
+      let reads : IsScript 1 bytes lives.runs.script =
+      subst (λ bs. IsScript 1 bs lives.runs.script) (bytes_at (found.holds texts.script) bytes of.bytes asks.known of.has)
       of.reads in
-      (script_is_faultless bytes lives.runs.script reads).none faulty.0 faulty.1 faulty.2
+      (script_is_faultless 1 bytes lives.runs.script reads).none faulty.0 faulty.1 faulty.2
 
   no_long_script : (end : Status) → EndsLive found.holds budget texts kept end → MAX_INPUT < length bytes → ⊥
   no_long_script end lives long =

@@ -312,7 +312,7 @@ pub record LivesContents (found : Reading) (words : List (List ℕ)) (texts : Li
   pub asks : IsLiveQuery words texts
   pub budget_is : budget_of texts.budget ≡ Some budget
   pub of_framework : HasText found (input (role.Framework 1) texts.file) (λ bytes. ReadsAs bytes f)
-  pub of_script : HasText found (input role.Script texts.script) (λ bytes. IsScript bytes script)
+  pub of_script : HasText found (input role.Script texts.script) (λ bytes. IsScript 1 bytes script)
 
 -- the run keeps what the sessions of the script come to on the framework
 pub record KeepsTranscript (f : Framework) (script : Script) (budget : ℕ) (kept : Transcript) : Type 0 where
@@ -329,7 +329,7 @@ IsLiveEnd f script budget kept _ = ⊥
 
 -- some cause stands at a line of a script's bytes
 abbrev pub IsFaultyScript : List ℕ → Type 0
-IsFaultyScript bytes = (line : ℕ) × (cause : ScriptCause) × Stands bytes line cause
+IsFaultyScript bytes = (line : ℕ) × (cause : ScriptCause) × Stands 1 bytes line cause
 
 -- the words ask for a run of the script with these bytes on a framework that its file reads as, and no read of either
 -- fails: it is served, or no fault is counted

@@ -4,7 +4,9 @@ use Rattle.std.specs.List.{flat_map, range_with_len}
 use Rattle.std.proofs.Math.Nat.{mod-lt}
 use Rattle.bench_runs.specs.Generator.{attacker_of, attacks_drawn, attacks_from, attacks_on, next_state, state_after}
 use Rattle.bench_runs.specs.Generator.{state_before}
+use Rattle.script_text.specs.declared.script.Script.{Script}
 use Rattle.script_text.specs.declared.script.ScriptLine.{ScriptLine}
+use Rattle.script_text.specs.declared.script.ScriptUse.{ScriptUse}
 use Rattle.bench_runs.specs.Scripts.{asked_about, bench_script, lines_by, lines_for}
 use Rattle.bench_runs.proofs.Numbers.{one_more}
 
@@ -63,3 +65,11 @@ pub all_made : (n seed a state : ℕ) (lines : List ScriptLine) → a - 1 ≡ as
     → lines ≡ (bench_script n seed).lines
 all_made n seed a state lines e is =
     is.made ∙ ap (λ k. flat_map (lines_for n seed) (range_with_len 1 k)) e
+
+-- a script of these commands and uses
+abbrev pub script_with : List ScriptLine → List ScriptUse → Script
+script_with lines uses = record { lines = lines; uses = uses }
+
+pub script_made : (n seed : ℕ) (lines : List ScriptLine) (uses : List ScriptUse) → lines ≡ (bench_script n seed).lines
+    → uses ≡ [] → script_with lines uses ≡ bench_script n seed
+script_made n seed lines uses e f = λ i. script_with (e i) (f i)

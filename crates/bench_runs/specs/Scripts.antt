@@ -50,4 +50,7 @@ asked_about n = min n MAX_ASKED
 
 -- the lines of the arguments, by rising argument
 abbrev pub bench_script : ℕ → ℕ → Script
-bench_script n seed = record { lines = flat_map (lines_for n seed) (range_with_len 1 (asked_about n)) }
+bench_script n seed = record {
+  lines = flat_map (lines_for n seed) (range_with_len 1 (asked_about n));
+  uses = [];
+}

@@ -84,5 +84,6 @@ pub(crate) fn script(alloc: Global, n: u32, seed: u32) -> Result<Script, Memory>
         push_lines(alloc, &mut lines, drawn(one, n), argument)?;
         state = next(next(one));
     }
-    Ok(Script { lines })
+    let uses = Items::new(alloc);
+    Ok(Script { lines, uses })
 }

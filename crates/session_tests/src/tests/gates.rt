@@ -80,7 +80,7 @@ fn transcript_of<R: Threads + Wait + Sync>(
     text: &str,
     gate: &Gate,
 ) -> Result<Bytes, Fail> {
-    let script = read_script(alloc, text.as_bytes())?;
+    let script = read_script(alloc, text.as_bytes(), 1)?;
     Ok(transcript(rt, alloc, &script, gate)?)
 }
 

@@ -38,7 +38,7 @@ fn transcript_of<R: Threads + Wait + Sync>(
     alloc: Global,
     script: &str,
 ) -> Result<Bytes, Fail> {
-    let script = read_script(alloc, script.as_bytes())?;
+    let script = read_script(alloc, script.as_bytes(), 1)?;
     Ok(transcript(rt, alloc, &script)?)
 }
 

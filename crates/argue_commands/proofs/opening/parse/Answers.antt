@@ -12,4 +12,4 @@ returns-in-Err-read_script-clause-err c =
     subst (IsLiveFault c.args.bytes.now) (sym c.script_refused.ensures)
     (script_fault_live c.args.bytes.now c.in-Err-read_script.fault f
     (subst (λ b. ReadsAs b f) c.as_slice.ensures c.in-Ok.ensures.ok)
-    (subst (λ b. IsToldOf b c.in-Err-read_script.fault) c.as_slice-2.ensures c.in-Err-read_script.ensures.fault))
+    (subst (λ b. IsToldOf 1 b c.in-Err-read_script.fault) c.as_slice-2.ensures c.in-Err-read_script.ensures.fault))

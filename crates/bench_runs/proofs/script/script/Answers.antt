@@ -1,6 +1,6 @@
-use Rattle.std.proofs.Common.{arith, ◌-◌, ◌≡◌, ap, refl}
+use Rattle.std.proofs.Common.{arith, ◌-◌, ◌≡◌, refl}
 use Rattle.bench_runs.specs.Scripts.{asked_about}
-use Rattle.bench_runs.proofs.DrawLemmas.{all_made, lines_begin, lines_next}
+use Rattle.bench_runs.proofs.DrawLemmas.{all_made, lines_begin, lines_next, script_made}
 use Rattle.bench_runs.proofs.script.script.Goals as goal
 
 pub loop-argument-init : goal.loop-argument-init
@@ -17,6 +17,7 @@ pub returns : goal.returns
 returns c =
     let end : c.loop-argument.argument - 1 ≡ asked_about c.args.n =
     omega (arith, c.loop-argument-test.false, c.loop-argument.auto.argument-end, c.min-argument-end.ensures) in
-    ap (λ lines. record { lines = lines })
+    script_made c.args.n c.args.seed c.loop-argument.lines c.new-uses.result
     (all_made c.args.n c.args.seed c.loop-argument.argument c.loop-argument.state c.loop-argument.lines end
     c.loop-argument.invariant)
+    c.new-uses.ensures
