@@ -17,9 +17,9 @@ use Rattle.script_text.specs.declared.fault.ScriptFault.TheVariants.{At, Memory}
 use Rattle.script_text.specs.declared.open_groups.Place.TheVariants.{Inside}
 use Rattle.script_text.specs.declared.script.Script.{Script}
 use Rattle.script_text.specs.declared.text_line.TextLine.{TextLine}
-use Rattle.script_text.specs.Groups.{FitGroups, Groups, after_line, after_lines, no_groups}
+use Rattle.script_text.specs.Groups.{FitPlaces, Places, after_line, after_lines, all_unbegun}
 use Rattle.script_text.specs.ScriptFaults.{rank, IsFaultless, IsFirstFault, IsToldOf, StandsAt}
-use Rattle.script_text.specs.ScriptFaults.{StandsBehind, StandsByGroup, StandsThere}
+use Rattle.script_text.specs.ScriptFaults.{StandsBehind, StandsByPlace, StandsThere}
 use Rattle.script_text.specs.ScriptText.{AreTextLines, IsScript, IsTextLine}
 use Rattle.script_text.specs.Steps.{AreRead, BreaksAt, FitsIn, IsFirstBadLine, StandsIn}
 use Rattle.script_text.specs.Uses.{AreAmong, used_at, uses_of}
@@ -38,18 +38,18 @@ told_there [] line behind (a ∷ more) are = (a, are.0)
 told_there (b ∷ before) line behind [] are = absurd are
 told_there (b ∷ before) line behind (a ∷ more) are = told_there before line behind more are.1
 
--- it fits the groups that the lines before it leave open
+-- it fits where the lines before it leave its session
 fits_there : (before : List LineText) (line : LineText) (behind : List LineText) (all read : List TextLine)
-    (groups : Groups) → AreTextLines (before ++ line ∷ behind) all → FitGroups groups all → AreTextLines before read
-    → (told : TextLine) × IsTextLine line.text told × FitsIn (after_lines read groups) told
-fits_there [] line behind [] read groups are fit those = absurd are
-fits_there [] line behind (a ∷ more) [] groups are fit those = (a, are.0, fit.0)
-fits_there [] line behind (a ∷ more) (r ∷ read) groups are fit those = absurd those
-fits_there (b ∷ before) line behind [] read groups are fit those = absurd are
-fits_there (b ∷ before) line behind (a ∷ more) [] groups are fit those = absurd those
-fits_there (b ∷ before) line behind (a ∷ more) (r ∷ read) groups are fit those =
-    fits_there before line behind more read (after_line r groups) are.1
-    (subst (λ l. FitGroups (after_line l groups) more) (line_same b.text a r are.0 those.0) fit.1) those.1
+    (places : Places) → AreTextLines (before ++ line ∷ behind) all → FitPlaces places all → AreTextLines before read
+    → (told : TextLine) × IsTextLine line.text told × FitsIn (after_lines read places) told
+fits_there [] line behind [] read places are fit those = absurd are
+fits_there [] line behind (a ∷ more) [] places are fit those = (a, are.0, fit.0)
+fits_there [] line behind (a ∷ more) (r ∷ read) places are fit those = absurd those
+fits_there (b ∷ before) line behind [] read places are fit those = absurd are
+fits_there (b ∷ before) line behind (a ∷ more) [] places are fit those = absurd those
+fits_there (b ∷ before) line behind (a ∷ more) (r ∷ read) places are fit those =
+    fits_there before line behind more read (after_line r places) are.1
+    (subst (λ l. FitPlaces (after_line l places) more) (line_same b.text a r are.0 those.0) fit.1) those.1
 
 -- its framework is there
 among_there : (frameworks : ℕ) (before : List LineText) (line : LineText) (behind : List LineText) (all : List TextLine)
@@ -64,7 +64,7 @@ among_there frameworks (b ∷ before) line behind (a ∷ more) are among =
 
 -- no cause stands at lines that fit
 none_stands : (frameworks : ℕ) (lines : List LineText) (all : List TextLine) (number : ℕ) (cause : ScriptCause)
-    → AreTextLines lines all → FitGroups no_groups all → AreAmong frameworks (uses_of all)
+    → AreTextLines lines all → FitPlaces all_unbegun all → AreAmong frameworks (uses_of all)
     → StandsAt frameworks lines number cause → ⊥
 none_stands frameworks lines all number cause are fit among s =
     let these = subst (λ ls. AreTextLines ls all) s.lines_are are in
@@ -73,8 +73,8 @@ none_stands frameworks lines all number cause are fit among s =
           let told = told_there s.before s.line s.behind all these in
           line_is_good s.line.text told.0 told.1 cause on
       | inr (inl by) ↦
-          let told = fits_there s.before s.line s.behind all by.read no_groups these fit by.are_lines in
-          fitting_is_good (after_lines by.read no_groups) s.line.text told.0 told.1 told.2 cause by.stands
+          let told = fits_there s.before s.line s.behind all by.read all_unbegun these fit by.are_lines in
+          fitting_is_good (after_lines by.read all_unbegun) s.line.text told.0 told.1 told.2 cause by.stands
       | inr (inr stray) ↦
           let told = among_there frameworks s.before s.line s.behind all these among in
           is_no_stray frameworks s.line.text told.0 told.1 told.2 stray.1
@@ -90,7 +90,7 @@ script_is_faultless frameworks bytes script h = record {
         let left = last.1 in
         let read = lines_same (kept_lines bytes) h.lines left.read h.are_lines left.are_lines in
         h.closed left.session left.edits
-        (ap (λ lines. after_lines lines no_groups left.session) read ∙ left.left)
+        (ap (λ lines. after_lines lines all_unbegun left.session) read ∙ left.left)
   ];
 }
 
@@ -111,20 +111,20 @@ first_line_same x y xs ys e = ap (λ ls. get_or ls 0 x) e
 other_lines_same : (x y : LineText) (xs ys : List LineText) → x ∷ xs ≡ y ∷ ys → xs ≡ ys
 other_lines_same x y xs ys e = cc
 
-pub places : (xs ys : List LineText) (x y : LineText) (us vs : List LineText) → xs ++ x ∷ us ≡ ys ++ y ∷ vs
+pub positions : (xs ys : List LineText) (x y : LineText) (us vs : List LineText) → xs ++ x ∷ us ≡ ys ++ y ∷ vs
     → IsBefore xs x ys ⊎ (IsSame xs ys x y ⊎ IsBefore ys y xs)
-places [] [] x y us vs e = inr (inl (record { lists = refl; lines = first_line_same x y us vs e }))
-places [] (b ∷ ys) x y us vs e = inl (record {
+positions [] [] x y us vs e = inr (inl (record { lists = refl; lines = first_line_same x y us vs e }))
+positions [] (b ∷ ys) x y us vs e = inl (record {
   between = ys;
   list_is = ap (λ l. l ∷ ys) (sym (first_line_same x b us (ys ++ y ∷ vs) e));
 })
-places (a ∷ xs) [] x y us vs e = inr (inr (record {
+positions (a ∷ xs) [] x y us vs e = inr (inr (record {
   between = xs;
   list_is = ap (λ l. l ∷ xs) (first_line_same a y (xs ++ x ∷ us) vs e);
 }))
-places (a ∷ xs) (b ∷ ys) x y us vs e =
+positions (a ∷ xs) (b ∷ ys) x y us vs e =
     let heads = first_line_same a b (xs ++ x ∷ us) (ys ++ y ∷ vs) e in
-    elim (places xs ys x y us vs (other_lines_same a b (xs ++ x ∷ us) (ys ++ y ∷ vs) e)) [
+    elim (positions xs ys x y us vs (other_lines_same a b (xs ++ x ∷ us) (ys ++ y ∷ vs) e)) [
       | inl p ↦ inl (record {
         between = p.between;
         list_is = ap (λ l. l ∷ ys) (sym heads) ∙ ap (λ ls. a ∷ ls) p.list_is;
@@ -167,36 +167,36 @@ number_within bytes before line behind e =
 
 -- what stands behind lines that were read stands by where they leave the sessions
 behind_read : (frameworks : ℕ) (before : List LineText) (fields : List (List ℕ)) (cause : ScriptCause)
-    (groups : Groups) (script : Script) → AreRead frameworks before groups script → StandsBehind before fields cause
-    → StandsByGroup groups fields cause
-behind_read frameworks before fields cause groups script r s =
+    (places : Places) (script : Script) → AreRead frameworks before places script → StandsBehind before fields cause
+    → StandsByPlace places fields cause
+behind_read frameworks before fields cause places script r s =
     let read = lines_same before s.read r.read s.are_lines r.are_lines in
-    let left : after_lines s.read no_groups ≡ groups = ap (λ ls. after_lines ls no_groups) read ∙ sym r.groups_are in
-    subst (λ g. StandsByGroup g fields cause) left s.stands
+    let left : after_lines s.read all_unbegun ≡ places = ap (λ ls. after_lines ls all_unbegun) read ∙ sym r.places_are in
+    subst (λ g. StandsByPlace g fields cause) left s.stands
 
-stands_here : (frameworks : ℕ) (groups : Groups) (script : Script) (before xs : List LineText) (x line : LineText)
-    (c : ScriptCause) → AreRead frameworks before groups script → IsSame xs before x line
-    → StandsThere frameworks xs (field_texts x.text) c → StandsIn frameworks groups (field_texts line.text) c
-stands_here frameworks groups script before xs x line c r p stands =
+stands_here : (frameworks : ℕ) (places : Places) (script : Script) (before xs : List LineText) (x line : LineText)
+    (c : ScriptCause) → AreRead frameworks before places script → IsSame xs before x line
+    → StandsThere frameworks xs (field_texts x.text) c → StandsIn frameworks places (field_texts line.text) c
+stands_here frameworks places script before xs x line c r p stands =
     at (subst (λ l. StandsThere frameworks before (field_texts l.text) c) p.lines
     (subst (λ ls. StandsThere frameworks ls (field_texts x.text) c) p.lists stands))
   where
     at : StandsThere frameworks before (field_texts line.text) c
-        → StandsIn frameworks groups (field_texts line.text) c
+        → StandsIn frameworks places (field_texts line.text) c
     at (inl on) = inl on
-    at (inr (inl by)) = inr (inl (behind_read frameworks before (field_texts line.text) c groups script r by))
+    at (inr (inl by)) = inr (inl (behind_read frameworks before (field_texts line.text) c places script r by))
     at (inr (inr among)) = inr (inr among)
 
-stands_behind : (frameworks : ℕ) (groups : Groups) (script : Script) (before : List LineText)
-    (fields : List (List ℕ)) (c : ScriptCause) → AreRead frameworks before groups script
-    → StandsIn frameworks groups fields c → StandsThere frameworks before fields c
-stands_behind frameworks groups script before fields c r (inl on) = inl on
-stands_behind frameworks groups script before fields c r (inr (inl by)) = inr (inl (record {
+stands_behind : (frameworks : ℕ) (places : Places) (script : Script) (before : List LineText)
+    (fields : List (List ℕ)) (c : ScriptCause) → AreRead frameworks before places script
+    → StandsIn frameworks places fields c → StandsThere frameworks before fields c
+stands_behind frameworks places script before fields c r (inl on) = inl on
+stands_behind frameworks places script before fields c r (inr (inl by)) = inr (inl (record {
   read = r.read;
   are_lines = r.are_lines;
-  stands = subst (λ g. StandsByGroup g fields c) r.groups_are by;
+  stands = subst (λ g. StandsByPlace g fields c) r.places_are by;
 }))
-stands_behind frameworks groups script before fields c r (inr (inr among)) = inr (inr among)
+stands_behind frameworks places script before fields c r (inr (inr among)) = inr (inr among)
 
 bad_line_told : (frameworks : ℕ) (bytes : List ℕ) (number : ℕ) (cause : ScriptCause)
     → IsFirstBadLine frameworks (kept_lines bytes) number cause → IsFirstFault frameworks bytes number cause
@@ -215,10 +215,10 @@ bad_line_told frameworks bytes number cause b =
         behind = others;
         lines_are = whole;
         number_is = b.bad.number_is;
-        stands = stands_behind frameworks b.groups b.script before (field_texts line.text) cause r b.bad.told.stands;
+        stands = stands_behind frameworks b.places b.script before (field_texts line.text) cause r b.bad.told.stands;
       });
       first = λ l c stands. elim stands [
-        | inl at ↦ elim (places at.before before at.line line at.behind others (sym at.lines_are ∙ whole)) [
+        | inl at ↦ elim (positions at.before before at.line line at.behind others (sym at.lines_are ∙ whole)) [
           | inl p ↦ absurd (none_stands frameworks before r.read l c r.are_lines r.fit r.among (record {
             before = at.before;
             line = at.line;
@@ -230,7 +230,7 @@ bad_line_told frameworks bytes number cause b =
           | inr (inl p) ↦ inr (
             b.bad.number_is ∙ sym (ap (λ x. x.number) p.lines) ∙ sym at.number_is,
             b.bad.told.first c
-                (stands_here frameworks b.groups b.script before at.before at.line line c r p at.stands),
+                (stands_here frameworks b.places b.script before at.before at.line line c r p at.stands),
           )
           | inr (inr p) ↦
               let higher = numbers_differ lines before others at.before at.behind line at.line (kept_lines-rise bytes)
@@ -254,11 +254,11 @@ breaks_told frameworks bytes Memory b = tt
 
 -- ---- behind the last line
 
-pub open_told : (frameworks : ℕ) (bytes : List ℕ) (groups : Groups) (script : Script) (session : ℕ)
-    (edits : List Edit) (number : ℕ) → AreRead frameworks (kept_lines bytes) groups script
-    → groups session ≡ Inside edits → number ≡ length (lines_of bytes) + 1
+pub open_told : (frameworks : ℕ) (bytes : List ℕ) (places : Places) (script : Script) (session : ℕ)
+    (edits : List Edit) (number : ℕ) → AreRead frameworks (kept_lines bytes) places script
+    → places session ≡ Inside edits → number ≡ length (lines_of bytes) + 1
     → IsFirstFault frameworks bytes number OpenGroup
-open_told frameworks bytes groups script session edits number r opened number_is = record {
+open_told frameworks bytes places script session edits number r opened number_is = record {
   stands = inr (
     refl,
     record {
@@ -266,7 +266,7 @@ open_told frameworks bytes groups script session edits number r opened number_is
       are_lines = r.are_lines;
       session = session;
       edits = edits;
-      left = ap (λ g. g session) (sym r.groups_are) ∙ opened;
+      left = ap (λ g. g session) (sym r.places_are) ∙ opened;
       number_is = number_is;
     },
   );
@@ -279,14 +279,14 @@ open_told frameworks bytes groups script session edits number r opened number_is
   ];
 }
 
-pub script_is : (frameworks : ℕ) (bytes : List ℕ) (groups : Groups) (script : Script)
-    → AreRead frameworks (kept_lines bytes) groups script
-    → ((s : ℕ) (edits : List Edit) → groups s ≡ Inside edits → ⊥) → IsScript frameworks bytes script
-script_is frameworks bytes groups script r none = record {
+pub script_is : (frameworks : ℕ) (bytes : List ℕ) (places : Places) (script : Script)
+    → AreRead frameworks (kept_lines bytes) places script
+    → ((s : ℕ) (edits : List Edit) → places s ≡ Inside edits → ⊥) → IsScript frameworks bytes script
+script_is frameworks bytes places script r none = record {
   lines = r.read;
   are_lines = r.are_lines;
   fit = r.fit;
-  closed = λ s edits e. none s edits (ap (λ g. g s) r.groups_are ∙ e);
+  closed = λ s edits e. none s edits (ap (λ g. g s) r.places_are ∙ e);
   commands = r.commands;
   uses = r.uses;
   among = subst (AreAmong frameworks) (sym r.uses) r.among;

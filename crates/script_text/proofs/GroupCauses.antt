@@ -20,9 +20,9 @@ use Rattle.script_text.specs.declared.text_line.LineCommand.{LineCommand}
 use Rattle.script_text.specs.declared.text_line.LineCommand.TheVariants.{Ask, Begin, Edit as change_by, End, Use as on}
 use Rattle.script_text.specs.declared.text_line.TextLine.{TextLine}
 use Rattle.script_text.specs.Changes.{change_name, change_of, edit_numbers}
-use Rattle.script_text.specs.Groups.{FitsGroup, Groups}
+use Rattle.script_text.specs.Groups.{FitsPlace, Places}
 use Rattle.script_text.specs.ScriptFaults.{rank, BeginWithSession, HaveChangeForm, IsFirstCause, IsMisplaced}
-use Rattle.script_text.specs.ScriptFaults.{IsMisplacedName, StandsAmong, StandsByGroup, StandsInGroup, StandsOn}
+use Rattle.script_text.specs.ScriptFaults.{IsMisplacedName, StandsAmong, StandsByPlace, StandsAtPlace, StandsOn}
 use Rattle.script_text.specs.ScriptText.{AreCommandFields, AreEditFields, IsTextLine}
 use Rattle.script_text.specs.Steps.{BreaksIn, BreaksLimit, FitsIn, IfWrong, IsFirstIn, IsMisplacedIn, TakesSession}
 use Rattle.script_text.proofs.CommandCauses.{first_same, marks_no_change, others_same}
@@ -40,9 +40,9 @@ session_same fields s t us vs a b =
     let texts : a.text ≡ b.text = first_same a.text b.text us vs (sym a.fields_are ∙ b.fields_are) in
     sym (subst (λ text. IsNumber text s) texts a.session_is.number).value ∙ b.session_is.number.value
 
-takes_group : (groups : Groups) (fields : List (List ℕ)) (cause : ScriptCause)
-    → (g : StandsByGroup groups fields cause) → TakesSession fields g.session g.others
-takes_group groups fields cause g =
+takes_place : (places : Places) (fields : List (List ℕ)) (cause : ScriptCause)
+    → (g : StandsByPlace places fields cause) → TakesSession fields g.session g.others
+takes_place places fields cause g =
     record { text = g.text; fields_are = g.fields_are; session_is = g.session_is }
 
 takes_line : (text : List ℕ) (line : TextLine) → (h : IsTextLine text line)
@@ -50,20 +50,20 @@ takes_line : (text : List ℕ) (line : TextLine) → (h : IsTextLine text line)
 takes_line text line h = record { text = h.session; fields_are = h.fields; session_is = h.session_is }
 
 -- what stands by a group, at the session and the fields that were read
-pub stands_there : (groups : Groups) (fields others : List (List ℕ)) (session : ℕ) (cause : ScriptCause)
-    → TakesSession fields session others → StandsByGroup groups fields cause
-    → StandsInGroup (groups session) others cause
-stands_there groups fields others session cause takes g =
-    let own = takes_group groups fields cause g in
+pub stands_there : (places : Places) (fields others : List (List ℕ)) (session : ℕ) (cause : ScriptCause)
+    → TakesSession fields session others → StandsByPlace places fields cause
+    → StandsAtPlace (places session) others cause
+stands_there places fields others session cause takes g =
+    let own = takes_place places fields cause g in
     let sessions : g.session ≡ session = session_same fields g.session session g.others others own takes in
     let behind : g.others ≡ others = others_same g.text takes.text g.others others (sym g.fields_are ∙ takes.fields_are) in
-    subst (λ fs. StandsInGroup (groups session) fs cause) behind
-    (subst (λ s. StandsInGroup (groups s) g.others cause) sessions g.stands)
+    subst (λ fs. StandsAtPlace (places session) fs cause) behind
+    (subst (λ s. StandsAtPlace (places s) g.others cause) sessions g.stands)
 
-pub stands_by : (groups : Groups) (fields others : List (List ℕ)) (session : ℕ) (cause : ScriptCause)
-    → TakesSession fields session others → StandsInGroup (groups session) others cause
-    → StandsByGroup groups fields cause
-stands_by groups fields others session cause takes stands = record {
+pub stands_by : (places : Places) (fields others : List (List ℕ)) (session : ℕ) (cause : ScriptCause)
+    → TakesSession fields session others → StandsAtPlace (places session) others cause
+    → StandsByPlace places fields cause
+stands_by places fields others session cause takes stands = record {
   session = session;
   text = takes.text;
   others = others;
@@ -74,31 +74,31 @@ stands_by groups fields others session cause takes stands = record {
 
 -- ---- where a name may stand
 
-pub no_session : (groups : Groups) (fields : List (List ℕ)) → (BeginWithSession fields → ⊥)
-    → IsMisplacedIn groups fields → ⊥
-no_session groups fields none g = none (begins fields g.others g.session (takes_group groups fields BadCommand g))
+pub no_session : (places : Places) (fields : List (List ℕ)) → (BeginWithSession fields → ⊥)
+    → IsMisplacedIn places fields → ⊥
+no_session places fields none g = none (begins fields g.others g.session (takes_place places fields BadCommand g))
 
-pub no_name : (groups : Groups) (fields others : List (List ℕ)) (session : ℕ) → TakesSession fields session others
-    → others ≡ [] → IsMisplacedIn groups fields → ⊥
-no_name groups fields others session takes none g =
-    let m = stands_there groups fields others session BadCommand takes g in
+pub no_name : (places : Places) (fields others : List (List ℕ)) (session : ℕ) → TakesSession fields session others
+    → others ≡ [] → IsMisplacedIn places fields → ⊥
+no_name places fields others session takes none g =
+    let m = stands_there places fields others session BadCommand takes g in
     let long : 0 ≡ length (m.name ∷ m.others) = ap length (sym none ∙ m.fields_are) in
     absurd (omega (arith, long))
 
-pub name_there : (groups : Groups) (fields others more : List (List ℕ)) (session : ℕ) (name : List ℕ)
-    → TakesSession fields session others → others ≡ name ∷ more → IsMisplacedName (groups session) name
-    → IsMisplacedIn groups fields
-name_there groups fields others more session name takes e misplaced =
-    stands_by groups fields others session BadCommand takes
+pub name_there : (places : Places) (fields others more : List (List ℕ)) (session : ℕ) (name : List ℕ)
+    → TakesSession fields session others → others ≡ name ∷ more → IsMisplacedName (places session) name
+    → IsMisplacedIn places fields
+name_there places fields others more session name takes e misplaced =
+    stands_by places fields others session BadCommand takes
     (record { name = name; others = more; fields_are = e; misplaced = misplaced })
 
-pub name_placed : (groups : Groups) (fields others more : List (List ℕ)) (session : ℕ) (name : List ℕ)
-    → TakesSession fields session others → others ≡ name ∷ more → (IsMisplacedName (groups session) name → ⊥)
-    → IsMisplacedIn groups fields → ⊥
-name_placed groups fields others more session name takes e placed g =
-    let m = stands_there groups fields others session BadCommand takes g in
+pub name_placed : (places : Places) (fields others more : List (List ℕ)) (session : ℕ) (name : List ℕ)
+    → TakesSession fields session others → others ≡ name ∷ more → (IsMisplacedName (places session) name → ⊥)
+    → IsMisplacedIn places fields → ⊥
+name_placed places fields others more session name takes e placed g =
+    let m = stands_there places fields others session BadCommand takes g in
     let names : m.name ≡ name = first_same m.name name m.others more (sym m.fields_are ∙ e) in
-    placed (subst (λ n. IsMisplacedName (groups session) n) names m.misplaced)
+    placed (subst (λ n. IsMisplacedName (places session) n) names m.misplaced)
 
 -- ---- ranks
 
@@ -126,30 +126,30 @@ behind_session fields session GroupTooLong stands = absurd stands
 behind_session fields session EmptyGroup stands = absurd stands
 behind_session fields session BadFramework stands = absurd stands
 
-of_group : (place : Place) (fields : List (List ℕ)) (cause : ScriptCause)
-    → StandsInGroup place fields cause → 2 ≤ rank cause
-of_group place fields BadSession stands = absurd stands
-of_group place fields BadCommand stands = omega arith
-of_group place fields BadTask stands = absurd stands
-of_group place fields BadNumber stands = absurd stands
-of_group place fields BadQuery stands = absurd stands
-of_group place fields OpenGroup stands = absurd stands
-of_group place fields GroupTooLong stands = omega arith
-of_group place fields EmptyGroup stands = omega arith
-of_group place fields BadFramework stands = absurd stands
+of_place : (place : Place) (fields : List (List ℕ)) (cause : ScriptCause)
+    → StandsAtPlace place fields cause → 2 ≤ rank cause
+of_place place fields BadSession stands = absurd stands
+of_place place fields BadCommand stands = omega arith
+of_place place fields BadTask stands = absurd stands
+of_place place fields BadNumber stands = absurd stands
+of_place place fields BadQuery stands = absurd stands
+of_place place fields OpenGroup stands = absurd stands
+of_place place fields GroupTooLong stands = omega arith
+of_place place fields EmptyGroup stands = omega arith
+of_place place fields BadFramework stands = absurd stands
 
 -- where the name may stand, a group's causes are those of its length
-of_length : (groups : Groups) (fields : List (List ℕ)) → (IsMisplacedIn groups fields → ⊥) → (cause : ScriptCause)
-    → StandsByGroup groups fields cause → 7 ≤ rank cause
-of_length groups fields placed BadSession g = absurd g.stands
-of_length groups fields placed BadCommand g = absurd (placed g)
-of_length groups fields placed BadTask g = absurd g.stands
-of_length groups fields placed BadNumber g = absurd g.stands
-of_length groups fields placed BadQuery g = absurd g.stands
-of_length groups fields placed OpenGroup g = absurd g.stands
-of_length groups fields placed GroupTooLong g = omega arith
-of_length groups fields placed EmptyGroup g = omega arith
-of_length groups fields placed BadFramework g = absurd g.stands
+of_length : (places : Places) (fields : List (List ℕ)) → (IsMisplacedIn places fields → ⊥) → (cause : ScriptCause)
+    → StandsByPlace places fields cause → 7 ≤ rank cause
+of_length places fields placed BadSession g = absurd g.stands
+of_length places fields placed BadCommand g = absurd (placed g)
+of_length places fields placed BadTask g = absurd g.stands
+of_length places fields placed BadNumber g = absurd g.stands
+of_length places fields placed BadQuery g = absurd g.stands
+of_length places fields placed OpenGroup g = absurd g.stands
+of_length places fields placed GroupTooLong g = omega arith
+of_length places fields placed EmptyGroup g = omega arith
+of_length places fields placed BadFramework g = absurd g.stands
 
 -- a framework that isn't there comes last
 last_of_all : (frameworks : ℕ) (fields : List (List ℕ)) (cause : ScriptCause) → StandsAmong frameworks fields cause
@@ -158,39 +158,39 @@ last_of_all frameworks fields cause among = ap rank among.0
 
 -- ---- the cause that is told
 
-pub misplaced_told : (frameworks : ℕ) (groups : Groups) (fields : List (List ℕ)) → IsMisplacedIn groups fields
-    → IsFirstIn frameworks groups fields BadCommand
-misplaced_told frameworks groups fields g =
-    let session = begins fields g.others g.session (takes_group groups fields BadCommand g) in
+pub misplaced_told : (frameworks : ℕ) (places : Places) (fields : List (List ℕ)) → IsMisplacedIn places fields
+    → IsFirstIn frameworks places fields BadCommand
+misplaced_told frameworks places fields g =
+    let session = begins fields g.others g.session (takes_place places fields BadCommand g) in
     record {
       stands = inr (inl g);
       first = λ other stands. elim stands [
         | inl own ↦ behind_session fields session other own
-        | inr (inl by) ↦ of_group (groups by.session) by.others other by.stands
+        | inr (inl by) ↦ of_place (places by.session) by.others other by.stands
         | inr (inr among) ↦ let last = last_of_all frameworks fields other among in omega (arith, last)
       ];
     }
 
-field_told : (frameworks : ℕ) (groups : Groups) (fields : List (List ℕ)) (cause : ScriptCause)
-    → (IsMisplacedIn groups fields → ⊥) → IsFirstCause (StandsOn fields) cause
-    → IsFirstIn frameworks groups fields cause
-field_told frameworks groups fields cause placed told =
+field_told : (frameworks : ℕ) (places : Places) (fields : List (List ℕ)) (cause : ScriptCause)
+    → (IsMisplacedIn places fields → ⊥) → IsFirstCause (StandsOn fields) cause
+    → IsFirstIn frameworks places fields cause
+field_told frameworks places fields cause placed told =
     let soon = of_fields fields cause told.stands in
     record {
       stands = inl told.stands;
       first = λ other stands. elim stands [
         | inl own ↦ told.first other own
-        | inr (inl by) ↦ let late = of_length groups fields placed other by in omega (arith, late, soon)
+        | inr (inl by) ↦ let late = of_length places fields placed other by in omega (arith, late, soon)
         | inr (inr among) ↦ let last = last_of_all frameworks fields other among in omega (arith, last, soon)
       ];
     }
 
-pub halt_in_group : (frameworks : ℕ) (groups : Groups) (fields : List (List ℕ)) (halt : LineStop)
-    → (IsMisplacedIn groups fields → ⊥) → IfWrong halt (IsFirstCause (StandsOn fields))
-    → IfWrong halt (IsFirstIn frameworks groups fields)
-halt_in_group frameworks groups fields (Wrong cause) placed told =
-    field_told frameworks groups fields cause placed told
-halt_in_group frameworks groups fields Memory placed told = tt
+pub halt_in_group : (frameworks : ℕ) (places : Places) (fields : List (List ℕ)) (halt : LineStop)
+    → (IsMisplacedIn places fields → ⊥) → IfWrong halt (IsFirstCause (StandsOn fields))
+    → IfWrong halt (IsFirstIn frameworks places fields)
+halt_in_group frameworks places fields (Wrong cause) placed told =
+    field_told frameworks places fields cause placed told
+halt_in_group frameworks places fields Memory placed told = tt
 
 edit_form : (fields : List (List ℕ)) (edit : Edit) → AreEditFields fields edit → HaveChangeForm fields
 edit_form fields edit h = record {
@@ -206,30 +206,30 @@ no_edits [] e = refl
 no_edits (edit ∷ edits) e = absurd (omega arith)
 
 -- an edit too many, or an end behind no edits
-limit_first : (frameworks : ℕ) (groups : Groups) (fields others : List (List ℕ)) (session : ℕ) (command : LineCommand)
+limit_first : (frameworks : ℕ) (places : Places) (fields others : List (List ℕ)) (session : ℕ) (command : LineCommand)
     (edits : List Edit) (cause : ScriptCause) → TakesSession fields session others → AreCommandFields others command
-    → (IsMisplacedIn groups fields → ⊥) → ((c : ScriptCause) → StandsOn fields c → ⊥)
-    → groups session ≡ Inside edits → BreaksLimit command (length edits) cause
-    → IsFirstIn frameworks groups fields cause
-limit_first frameworks groups fields others session (change_by edit) edits cause takes are placed good opened breaks =
-    subst (IsFirstIn frameworks groups fields) (sym breaks.1) (record {
-      stands = inr (inl (stands_by groups fields others session GroupTooLong takes
-          (subst (λ group. StandsInGroup group others GroupTooLong) (sym opened) (edit_form others edit are, breaks.0))));
+    → (IsMisplacedIn places fields → ⊥) → ((c : ScriptCause) → StandsOn fields c → ⊥)
+    → places session ≡ Inside edits → BreaksLimit command (length edits) cause
+    → IsFirstIn frameworks places fields cause
+limit_first frameworks places fields others session (change_by edit) edits cause takes are placed good opened breaks =
+    subst (IsFirstIn frameworks places fields) (sym breaks.1) (record {
+      stands = inr (inl (stands_by places fields others session GroupTooLong takes
+          (subst (λ group. StandsAtPlace group others GroupTooLong) (sym opened) (edit_form others edit are, breaks.0))));
       first = λ other stands. elim stands [
         | inl own ↦ absurd (good other own)
-        | inr (inl by) ↦ of_length groups fields placed other by
+        | inr (inl by) ↦ of_length places fields placed other by
         | inr (inr among) ↦ let last = last_of_all frameworks fields other among in omega (arith, last)
       ];
     })
-limit_first frameworks groups fields others session (Ask asked) edits cause takes are placed good opened breaks =
+limit_first frameworks places fields others session (Ask asked) edits cause takes are placed good opened breaks =
     absurd breaks
-limit_first frameworks groups fields others session Begin edits cause takes are placed good opened breaks =
+limit_first frameworks places fields others session Begin edits cause takes are placed good opened breaks =
     absurd breaks
-limit_first frameworks groups fields others session (on k) edits cause takes are placed good opened breaks =
+limit_first frameworks places fields others session (on k) edits cause takes are placed good opened breaks =
     absurd breaks
-limit_first frameworks groups fields others session End edits cause takes are placed good opened breaks =
-    subst (IsFirstIn frameworks groups fields) (sym breaks.1) (record {
-      stands = inr (inl (stands_by groups fields others session EmptyGroup takes
+limit_first frameworks places fields others session End edits cause takes are placed good opened breaks =
+    subst (IsFirstIn frameworks places fields) (sym breaks.1) (record {
+      stands = inr (inl (stands_by places fields others session EmptyGroup takes
           (are, opened ∙ ap Inside (no_edits edits breaks.0))));
       first = λ other stands. elim stands [
         | inl own ↦ absurd (good other own)
@@ -238,7 +238,7 @@ limit_first frameworks groups fields others session End edits cause takes are pl
       ];
     })
   where
-    at_end : (other : ScriptCause) → StandsByGroup groups fields other → 8 ≤ rank other
+    at_end : (other : ScriptCause) → StandsByPlace places fields other → 8 ≤ rank other
     at_end BadSession by = absurd by.stands
     at_end BadCommand by = absurd (placed by)
     at_end BadTask by = absurd by.stands
@@ -246,17 +246,17 @@ limit_first frameworks groups fields others session End edits cause takes are pl
     at_end BadQuery by = absurd by.stands
     at_end OpenGroup by = absurd by.stands
     at_end GroupTooLong by =
-        let form = subst (λ group. StandsInGroup group others GroupTooLong) opened
-        (stands_there groups fields others session GroupTooLong takes by) in
+        let form = subst (λ group. StandsAtPlace group others GroupTooLong) opened
+        (stands_there places fields others session GroupTooLong takes by) in
         absurd (marks_no_change others (inr are) form.0)
     at_end EmptyGroup by = omega arith
     at_end BadFramework by = absurd by.stands
 
-pub limit_told : (frameworks : ℕ) (groups : Groups) (text : List ℕ) (line : TextLine) (cause : ScriptCause)
-    → IsTextLine text line → (IsMisplacedIn groups (field_texts text) → ⊥) → BreaksIn groups line cause
-    → IsFirstIn frameworks groups (field_texts text) cause
-limit_told frameworks groups text line cause h placed b =
-    limit_first frameworks groups (field_texts text) h.others line.session line.command b.edits cause
+pub limit_told : (frameworks : ℕ) (places : Places) (text : List ℕ) (line : TextLine) (cause : ScriptCause)
+    → IsTextLine text line → (IsMisplacedIn places (field_texts text) → ⊥) → BreaksIn places line cause
+    → IsFirstIn frameworks places (field_texts text) cause
+limit_told frameworks places text line cause h placed b =
+    limit_first frameworks places (field_texts text) h.others line.session line.command b.edits cause
     (takes_line text line h) h.command_is placed (line_is_good text line h) b.opened b.breaks
 
 -- ---- a line that fits
@@ -265,7 +265,7 @@ limit_told frameworks groups text line cause h placed b =
 fits_at : (command : LineCommand) (place : Place) (fields : List (List ℕ))
     → AreCommandFields fields command → (IsMisplaced place fields → ⊥)
     → ((edits : List Edit) (cause : ScriptCause) → place ≡ Inside edits → BreaksLimit command (length edits) cause → ⊥)
-    → FitsGroup command place
+    → FitsPlace command place
 fits_at (change_by edit) Unbegun fields are placed free = tt
 fits_at (change_by edit) Between fields are placed free = tt
 fits_at (change_by edit) (Inside edits) fields are placed free = elim (cases_lt (length edits) MAX_GROUP) [
@@ -302,12 +302,12 @@ fits_at (on k) (Inside edits) fields are placed free = placed (record {
   misplaced = inr (inr refl);
 })
 
-pub line_fits : (groups : Groups) (text : List ℕ) (line : TextLine) → IsTextLine text line
-    → (IsMisplacedIn groups (field_texts text) → ⊥) → ((cause : ScriptCause) → BreaksIn groups line cause → ⊥)
-    → FitsIn groups line
-line_fits groups text line h placed free =
-    fits_at line.command (groups line.session) h.others h.command_is
-    (λ m. placed (stands_by groups (field_texts text) h.others line.session BadCommand (takes_line text line h) m))
+pub line_fits : (places : Places) (text : List ℕ) (line : TextLine) → IsTextLine text line
+    → (IsMisplacedIn places (field_texts text) → ⊥) → ((cause : ScriptCause) → BreaksIn places line cause → ⊥)
+    → FitsIn places line
+line_fits places text line h placed free =
+    fits_at line.command (places line.session) h.others h.command_is
+    (λ m. placed (stands_by places (field_texts text) h.others line.session BadCommand (takes_line text line h) m))
     (λ edits cause opened breaks. free cause (record { edits = edits; opened = opened; breaks = breaks }))
 
 -- such a line has no cause by where its session stands
@@ -331,7 +331,7 @@ name_is : (fields : List (List ℕ)) (name own : List ℕ) (more numbers : List 
 name_is fields name own more numbers f e = first_same own name numbers more (sym f ∙ e)
 
 misplaced_name : (command : LineCommand) (place : Place) (fields : List (List ℕ)) (name : List ℕ)
-    (more : List (List ℕ)) → AreCommandFields fields command → FitsGroup command place → fields ≡ name ∷ more
+    (more : List (List ℕ)) → AreCommandFields fields command → FitsPlace command place → fields ≡ name ∷ more
     → IsMisplacedName place name → ⊥
 misplaced_name (change_by edit) place fields name more are fits e is = change_placed edit place fields name more are e is
 misplaced_name (Ask asked) Unbegun fields name more are fits e is = end_is_no_ask
@@ -362,7 +362,7 @@ misplaced_name (on k) Between fields name more are fits e is = fits
 misplaced_name (on k) (Inside edits) fields name more are fits e is = fits
 
 too_many : (command : LineCommand) (place : Place) (fields : List (List ℕ))
-    → AreCommandFields fields command → FitsGroup command place → StandsInGroup place fields GroupTooLong → ⊥
+    → AreCommandFields fields command → FitsPlace command place → StandsAtPlace place fields GroupTooLong → ⊥
 too_many command Unbegun fields are fits many = many
 too_many command Between fields are fits many = many
 too_many (change_by edit) (Inside edits) fields are fits many = absurd (omega (arith, fits, many.1))
@@ -378,7 +378,7 @@ count_of Between = 1
 count_of (Inside edits) = length edits
 
 too_few : (command : LineCommand) (place : Place) (fields : List (List ℕ))
-    → AreCommandFields fields command → FitsGroup command place → StandsInGroup place fields EmptyGroup → ⊥
+    → AreCommandFields fields command → FitsPlace command place → StandsAtPlace place fields EmptyGroup → ⊥
 too_few command Unbegun fields are fits few =
     let count : 1 ≡ 0 = ap count_of few.1 in absurd (omega (arith, count))
 too_few command Between fields are fits few =
@@ -392,8 +392,8 @@ too_few End (Inside edits) fields are fits few =
 too_few (on k) (Inside edits) fields are fits few = fits
 
 good_at : (command : LineCommand) (place : Place) (fields : List (List ℕ))
-    → AreCommandFields fields command → FitsGroup command place → (cause : ScriptCause)
-    → StandsInGroup place fields cause → ⊥
+    → AreCommandFields fields command → FitsPlace command place → (cause : ScriptCause)
+    → StandsAtPlace place fields cause → ⊥
 good_at command place fields are fits BadSession stands = stands
 good_at command place fields are fits BadCommand m =
     misplaced_name command place fields m.name m.others are fits m.fields_are m.misplaced
@@ -405,8 +405,8 @@ good_at command place fields are fits GroupTooLong stands = too_many command pla
 good_at command place fields are fits EmptyGroup stands = too_few command place fields are fits stands
 good_at command place fields are fits BadFramework stands = stands
 
-pub fitting_is_good : (groups : Groups) (text : List ℕ) (line : TextLine) → IsTextLine text line → FitsIn groups line
-    → (cause : ScriptCause) → StandsByGroup groups (field_texts text) cause → ⊥
-fitting_is_good groups text line h fits cause g =
-    good_at line.command (groups line.session) h.others h.command_is fits cause
-    (stands_there groups (field_texts text) h.others line.session cause (takes_line text line h) g)
+pub fitting_is_good : (places : Places) (text : List ℕ) (line : TextLine) → IsTextLine text line → FitsIn places line
+    → (cause : ScriptCause) → StandsByPlace places (field_texts text) cause → ⊥
+fitting_is_good places text line h fits cause g =
+    good_at line.command (places line.session) h.others h.command_is fits cause
+    (stands_there places (field_texts text) h.others line.session cause (takes_line text line h) g)

@@ -16,7 +16,7 @@ use Rattle.script_text.specs.Lists.{AreNameLines, IsFirstListFault, IsList, IsLi
 use Rattle.script_text.specs.Lists.{StandsAtName, StandsOnName, list_rank}
 use Rattle.script_text.specs.ListSteps.{AreNames, BreaksList, HaveNames, IsFirstBadName, IsToldName, StopsList}
 use Rattle.script_text.proofs.CommandCauses.{first_same}
-use Rattle.script_text.proofs.FirstFaults.{numbers_differ, places}
+use Rattle.script_text.proofs.FirstFaults.{numbers_differ, positions}
 use Rattle.lists.proofs.Zips.{zip_same}
 
 -- ---- a line
@@ -166,7 +166,7 @@ name_told bytes number cause b =
         stands = subst (λ count. StandsOnName count b.line.text cause) long b.told.stands;
       });
       first = λ l c stands. elim stands [
-        | inl at ↦ elim (places at.before before at.line b.line at.behind b.left (sym at.lines_are ∙ whole)) [
+        | inl at ↦ elim (positions at.before before at.line b.line at.behind b.left (sym at.lines_are ∙ whole)) [
           | inl p ↦ absurd (none_bad before b.names l c names (record {
             before = at.before;
             line = at.line;

@@ -14,7 +14,7 @@ use Rattle.script_text.specs.declared.text_line.TextLine.{TextLine}
 use Rattle.script_text.specs.Changes.{change_name, change_of, edit_numbers}
 use Rattle.script_text.specs.ScriptText.{AreAskFields, AreCommandFields, AreEditFields, AreTextLines, AreUseFields}
 use Rattle.script_text.specs.ScriptText.{IsScript, IsTextLine, asked_numbers}
-use Rattle.script_text.specs.Groups.{commands_of, no_groups}
+use Rattle.script_text.specs.Groups.{commands_of, all_unbegun}
 use Rattle.script_text.specs.Uses.{uses_of}
 use Rattle.script_text.proofs.CommandCauses.{first_same, others_same}
 use Rattle.script_text.proofs.Names.{ask_is_no_change, begin_is_no_ask, begin_is_no_change, begin_is_no_end}
@@ -127,6 +127,6 @@ pub script_same : (frameworks : ℕ) (bytes : List ℕ) (s t : Script) → IsScr
     → IsScript frameworks bytes t → s ≡ t
 script_same frameworks bytes s t a b =
     let read : a.lines ≡ b.lines = lines_same (kept_lines bytes) a.lines b.lines a.are_lines b.are_lines in
-    let lines : s.lines ≡ t.lines = a.commands ∙ (ap (commands_of no_groups) read ∙ sym b.commands) in
+    let lines : s.lines ≡ t.lines = a.commands ∙ (ap (commands_of all_unbegun) read ∙ sym b.commands) in
     let uses : s.uses ≡ t.uses = a.uses ∙ (ap uses_of read ∙ sym b.uses) in
     λ i. record { lines = lines i; uses = uses i }

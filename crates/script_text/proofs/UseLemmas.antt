@@ -11,7 +11,7 @@ use Rattle.script_text.specs.declared.script.ScriptUse.{ScriptUse}
 use Rattle.script_text.specs.declared.text_line.LineCommand.{LineCommand}
 use Rattle.script_text.specs.declared.text_line.LineCommand.TheVariants.{Ask, Begin, Edit as change_by, End, Use as on}
 use Rattle.script_text.specs.declared.text_line.TextLine.{TextLine}
-use Rattle.script_text.specs.Groups.{Groups}
+use Rattle.script_text.specs.Groups.{Places}
 use Rattle.script_text.specs.ScriptFaults.{rank, HaveStrayUse}
 use Rattle.script_text.specs.ScriptText.{AreCommandFields, IsTextLine}
 use Rattle.script_text.specs.Steps.{FitsIn, IsFirstIn, IsStrayIn}
@@ -76,17 +76,17 @@ stray_by frameworks session fields Begin are none = absurd (none tt)
 stray_by frameworks session fields End are none = absurd (none tt)
 
 -- the only cause that stands at a line whose framework isn't there, where else it may stand
-pub stray_told : (frameworks : ℕ) (groups : Groups) (text : List ℕ) (line : TextLine) (cause : ScriptCause)
-    → IsTextLine text line → FitsIn groups line → IsStrayIn frameworks line cause
-    → IsFirstIn frameworks groups (field_texts text) cause
-stray_told frameworks groups text line cause h fits stray =
+pub stray_told : (frameworks : ℕ) (places : Places) (text : List ℕ) (line : TextLine) (cause : ScriptCause)
+    → IsTextLine text line → FitsIn places line → IsStrayIn frameworks line cause
+    → IsFirstIn frameworks places (field_texts text) cause
+stray_told frameworks places text line cause h fits stray =
     let behind : behind_first (field_texts text) ≡ h.others = ap behind_first h.fields in
     let form = stray_by frameworks line.session h.others line.command h.command_is stray.1 in
-    subst (IsFirstIn frameworks groups (field_texts text)) (sym stray.0) (record {
+    subst (IsFirstIn frameworks places (field_texts text)) (sym stray.0) (record {
       stands = inr (inr (refl, subst (HaveStrayUse frameworks) (sym behind) form));
       first = λ other stands. elim stands [
         | inl on_line ↦ absurd (line_is_good text line h other on_line)
-        | inr (inl by) ↦ absurd (fitting_is_good groups text line h fits other by)
+        | inr (inl by) ↦ absurd (fitting_is_good places text line h fits other by)
         | inr (inr among) ↦ let last : rank other ≡ 9 = ap rank among.0 in omega (arith, last)
       ];
     })

@@ -22,7 +22,7 @@ use Rattle.script_text.specs.declared.open_groups.Place.{Place}
 use Rattle.script_text.specs.declared.open_groups.Place.TheVariants.{Unbegun, Between, Inside}
 use Rattle.script_text.specs.Changes.{change_name, Takes}
 use Rattle.script_text.specs.declared.text_line.TextLine.{TextLine}
-use Rattle.script_text.specs.Groups.{Groups, after_lines, no_groups}
+use Rattle.script_text.specs.Groups.{Places, after_lines, all_unbegun}
 use Rattle.script_text.specs.ScriptText.{AreTextLines, SpellsSession}
 use Rattle.script_text.specs.Uses.{IsAmong}
 
@@ -149,7 +149,7 @@ pub record HaveStrayUse (frameworks : ℕ) (fields : List (List ℕ)) : Type 0 w
 abbrev pub StandsAmong : ℕ → List (List ℕ) → ScriptCause → Type 0
 StandsAmong frameworks fields cause = (cause ≡ BadFramework) × HaveStrayUse frameworks (behind_first fields)
 
--- ---- groups
+-- ---- where sessions stand
 
 -- the name of a command that may not stand where its session stands
 abbrev pub IsMisplacedName : Place → List ℕ → Type 0
@@ -171,31 +171,31 @@ IsTooMany Between fields = ⊥
 IsTooMany (Inside edits) fields = HaveChangeForm fields × (MAX_GROUP ≤ length edits)
 
 -- the cause stands on the fields behind the session's number, by where the session stands
-abbrev pub StandsInGroup : Place → List (List ℕ) → ScriptCause → Type 0
-StandsInGroup place fields BadSession = ⊥
-StandsInGroup place fields BadCommand = IsMisplaced place fields
-StandsInGroup place fields BadTask = ⊥
-StandsInGroup place fields BadNumber = ⊥
-StandsInGroup place fields BadQuery = ⊥
-StandsInGroup place fields OpenGroup = ⊥
-StandsInGroup place fields GroupTooLong = IsTooMany place fields
-StandsInGroup place fields EmptyGroup = (fields ≡ codes "end" ∷ []) × (place ≡ Inside [])
-StandsInGroup place fields BadFramework = ⊥
+abbrev pub StandsAtPlace : Place → List (List ℕ) → ScriptCause → Type 0
+StandsAtPlace place fields BadSession = ⊥
+StandsAtPlace place fields BadCommand = IsMisplaced place fields
+StandsAtPlace place fields BadTask = ⊥
+StandsAtPlace place fields BadNumber = ⊥
+StandsAtPlace place fields BadQuery = ⊥
+StandsAtPlace place fields OpenGroup = ⊥
+StandsAtPlace place fields GroupTooLong = IsTooMany place fields
+StandsAtPlace place fields EmptyGroup = (fields ≡ codes "end" ∷ []) × (place ≡ Inside [])
+StandsAtPlace place fields BadFramework = ⊥
 
 -- the cause stands on the fields of a line by where the line's session stands
-pub record StandsByGroup (groups : Groups) (fields : List (List ℕ)) (cause : ScriptCause) : Type 0 where
+pub record StandsByPlace (places : Places) (fields : List (List ℕ)) (cause : ScriptCause) : Type 0 where
   pub session : ℕ
   pub text : List ℕ
   pub others : List (List ℕ)
   pub fields_are : fields ≡ text ∷ others
   pub session_is : SpellsSession text session
-  pub stands : StandsInGroup (groups session) others cause
+  pub stands : StandsAtPlace (places session) others cause
 
 -- the cause stands on the fields of a line by where the lines before it leave its session
 pub record StandsBehind (before : List LineText) (fields : List (List ℕ)) (cause : ScriptCause) : Type 0 where
   pub read : List TextLine
   pub are_lines : AreTextLines before read
-  pub stands : StandsByGroup (after_lines read no_groups) fields cause
+  pub stands : StandsByPlace (after_lines read all_unbegun) fields cause
 
 -- ---- the text
 
@@ -219,7 +219,7 @@ pub record IsLeftOpen (bytes : List ℕ) (number : ℕ) : Type 0 where
   pub are_lines : AreTextLines (kept_lines bytes) read
   pub session : ℕ
   pub edits : List Edit
-  pub left : after_lines read no_groups session ≡ Inside edits
+  pub left : after_lines read all_unbegun session ≡ Inside edits
   pub number_is : number ≡ length (lines_of bytes) + 1
 
 -- the cause stands at the line of the bytes, where there are so many frameworks

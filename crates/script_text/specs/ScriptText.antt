@@ -13,7 +13,7 @@ use Rattle.script_text.specs.declared.text_line.LineCommand.TheVariants.{Ask, Be
 use Rattle.script_text.specs.declared.text_line.TextLine.{TextLine}
 use Rattle.script_text.specs.declared.script.Script.{Script}
 use Rattle.script_text.specs.Changes.{change_name, change_of, edit_numbers}
-use Rattle.script_text.specs.Groups.{FitGroups, after_lines, commands_of, no_groups}
+use Rattle.script_text.specs.Groups.{FitPlaces, after_lines, commands_of, all_unbegun}
 use Rattle.script_text.specs.Uses.{AreAmong, uses_of}
 
 -- the fields are the name of the edit's command and its numbers, with leading zeros or without
@@ -71,8 +71,8 @@ AreTextLines texts lines = AllZip (λ text line. IsTextLine text.text line) text
 pub record IsScript (frameworks : ℕ) (bytes : List ℕ) (script : Script) : Type 0 where
   pub lines : List TextLine
   pub are_lines : AreTextLines (kept_lines bytes) lines
-  pub fit : FitGroups no_groups lines
-  pub closed : (s : ℕ) (edits : List Edit) → ¬ (after_lines lines no_groups s ≡ Inside edits)
-  pub commands : script.lines ≡ commands_of no_groups lines
+  pub fit : FitPlaces all_unbegun lines
+  pub closed : (s : ℕ) (edits : List Edit) → ¬ (after_lines lines all_unbegun s ≡ Inside edits)
+  pub commands : script.lines ≡ commands_of all_unbegun lines
   pub uses : script.uses ≡ uses_of lines
   pub among : AreAmong frameworks script.uses

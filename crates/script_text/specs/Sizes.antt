@@ -10,9 +10,9 @@ abbrev pub HasGroupSize : List Edit → Type 0
 HasGroupSize edits = (0 < length edits) × (length edits ≤ MAX_GROUP)
 
 -- where the session of an index stands; it has had no line where there is no index
-abbrev pub group_at : List Place → ℕ → Place
-group_at groups s = get_or groups s Unbegun
+abbrev pub place_at : List Place → ℕ → Place
+place_at places s = get_or places s Unbegun
 
--- none of the groups has too many edits
+-- no group has too many edits
 abbrev pub AreSmall : List Place → Type 0
-AreSmall groups = (s : ℕ) (edits : List Edit) → group_at groups s ≡ Inside edits → length edits ≤ MAX_GROUP
+AreSmall places = (s : ℕ) (edits : List Edit) → place_at places s ≡ Inside edits → length edits ≤ MAX_GROUP

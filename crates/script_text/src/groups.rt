@@ -7,9 +7,9 @@ ghost use Rattle.edit_rules.specs.declared.edit.Edit.{Edit as AnEdit};
 ghost use Rattle.script_text.specs.declared.open_groups.Place.TheVariants.{Unbegun, Inside};
 ghost use Rattle.script_text.specs.declared.script.ScriptCommand.TheVariants.{Edit as changes};
 ghost use Rattle.script_text.specs.declared.text_line.LineCommand.TheVariants.{Ask as asks, Begin, Edit as change_by, End, Use as on};
-ghost use Rattle.script_text.specs.Groups.{after_line, no_groups, told_at};
-ghost use Rattle.script_text.specs.Sizes.{AreSmall, group_at};
-ghost use Rattle.script_text.specs.Steps.{FitsIn, groups_of, line_by};
+ghost use Rattle.script_text.specs.Groups.{after_line, all_unbegun, told_at};
+ghost use Rattle.script_text.specs.Sizes.{AreSmall, place_at};
+ghost use Rattle.script_text.specs.Steps.{FitsIn, places_of, line_by};
 ghost use Rattle.script_text.specs.Uses.{used_at};
 
 use crate::open_groups::{OpenGroups, Place};
@@ -23,24 +23,24 @@ use std::mem::replace;
 
 // No line of any session so far.
 fn none_begun(alloc: Global) -> Result<Vec<Place>, Memory>
-    ensures long { IfOk result (λ groups. length groups.items ≡ MAX_SESSIONS + 1) }
-    ensures none { IfOk result (λ groups. (s : ℕ) → group_at groups.items s ≡ Unbegun) }
+    ensures long { IfOk result (λ places. length places.items ≡ MAX_SESSIONS + 1) }
+    ensures none { IfOk result (λ places. (s : ℕ) → place_at places.items s ≡ Unbegun) }
 {
-    let mut groups = Vec::new(alloc);
-    'sessions: while groups.len() <= MAX_SESSIONS as usize {
-        groups.push(Place::Unbegun)?;
+    let mut places = Vec::new(alloc);
+    'sessions: while places.len() <= MAX_SESSIONS as usize {
+        places.push(Place::Unbegun)?;
     }
-    Ok(groups)
+    Ok(places)
 }
 
 // Says where a session stands now, and gives where it stood.
-fn replace_at(groups: &mut Vec<Place>, at: usize, place: Place) -> Place
-    requires { at < length groups.old.items }
-    ensures long { length groups.new.items ≡ length groups.old.items }
-    ensures given { result ≡ group_at groups.old.items at }
-    ensures put { (s : ℕ) → group_at groups.new.items s ≡ (if s == at then place else group_at groups.old.items s) }
+fn replace_at(places: &mut Vec<Place>, at: usize, place: Place) -> Place
+    requires { at < length places.old.items }
+    ensures long { length places.new.items ≡ length places.old.items }
+    ensures given { result ≡ place_at places.old.items at }
+    ensures put { (s : ℕ) → place_at places.new.items s ≡ (if s == at then place else place_at places.old.items s) }
 {
-    replace(&mut groups[at], place)
+    replace(&mut places[at], place)
 }
 
 // Whether a session is inside a group.
@@ -72,29 +72,29 @@ fn single(alloc: Global, edit: Edit) -> Result<ScriptCommand, Memory>
 impl OpenGroups {
     /// No session has had a line.
     pub(crate) fn new(alloc: Global) -> Result<OpenGroups, Memory>
-        ensures { IfOk result (λ groups. groups_of groups ≡ no_groups) }
+        ensures { IfOk result (λ groups. places_of groups ≡ all_unbegun) }
     {
         Ok(OpenGroups {
-            groups: none_begun(alloc)?,
+            places: none_begun(alloc)?,
         })
     }
 
     /// Where the session stands.
     pub(crate) fn place(&self, session: u32) -> &Place
         requires { session ≤ MAX_SESSIONS }
-        ensures { result.now ≡ groups_of self.now session }
+        ensures { result.now ≡ places_of self.now session }
     {
-        let groups = self.groups.as_slice();
-        &groups[session as usize]
+        let places = self.places.as_slice();
+        &places[session as usize]
     }
 
     /// Whether any session has a group open.
     pub(crate) fn is_any_open(&self) -> bool
-        ensures { IsTrue result ↔ ((s : ℕ) × (edits : List AnEdit) × (groups_of self.now s ≡ Inside edits)) }
+        ensures { IsTrue result ↔ ((s : ℕ) × (edits : List AnEdit) × (places_of self.now s ≡ Inside edits)) }
     {
-        let groups = self.groups.as_slice();
-        for group in groups {
-            if is_inside(group) {
+        let places = self.places.as_slice();
+        for place in places {
+            if is_inside(place) {
                 return true;
             }
         }
@@ -110,10 +110,10 @@ impl OpenGroups {
         script: &mut Script,
     ) -> Result<(), Memory>
         requires session { line.session ≤ MAX_SESSIONS }
-        requires fits { FitsIn (groups_of self.old) line }
-        ensures after { OnOk result (groups_of self.new ≡ after_line line (groups_of self.old)) }
+        requires fits { FitsIn (places_of self.old) line }
+        ensures after { OnOk result (places_of self.new ≡ after_line line (places_of self.old)) }
         ensures told { OnOk result
-            (script.new.lines ≡ script.old.lines ++ told_at line (groups_of self.old line.session)) }
+            (script.new.lines ≡ script.old.lines ++ told_at line (places_of self.old line.session)) }
         ensures used { OnOk result (script.new.uses ≡ script.old.uses ++ used_at line) }
     {
         let TextLine { session, command } = line;
@@ -137,11 +137,11 @@ impl OpenGroups {
         script: &mut Items<ScriptLine>,
     ) -> Result<(), Memory>
         requires { session ≤ MAX_SESSIONS }
-        ensures after { groups_of self.new ≡ after_line (line_by session (asks query)) (groups_of self.old) }
+        ensures after { places_of self.new ≡ after_line (line_by session (asks query)) (places_of self.old) }
         ensures told { OnOk result (script.new
-            ≡ script.old ++ told_at (line_by session (asks query)) (groups_of self.old session)) }
+            ≡ script.old ++ told_at (line_by session (asks query)) (places_of self.old session)) }
     {
-        replace_at(&mut self.groups, session as usize, Place::Between);
+        replace_at(&mut self.places, session as usize, Place::Between);
         let command = ScriptCommand::Ask(query);
         script.push(ScriptLine { session, command })
     }
@@ -154,10 +154,10 @@ impl OpenGroups {
         uses: &mut Items<ScriptUse>,
     ) -> Result<(), Memory>
         requires { session ≤ MAX_SESSIONS }
-        ensures after { groups_of self.new ≡ after_line (line_by session (on framework)) (groups_of self.old) }
+        ensures after { places_of self.new ≡ after_line (line_by session (on framework)) (places_of self.old) }
         ensures used { OnOk result (uses.new ≡ uses.old ++ used_at (line_by session (on framework))) }
     {
-        replace_at(&mut self.groups, session as usize, Place::Between);
+        replace_at(&mut self.places, session as usize, Place::Between);
         uses.push(ScriptUse { session, framework })
     }
 
@@ -170,16 +170,16 @@ impl OpenGroups {
         script: &mut Items<ScriptLine>,
     ) -> Result<(), Memory>
         requires session { session ≤ MAX_SESSIONS }
-        requires fits { FitsIn (groups_of self.old) (line_by session (change_by edit)) }
+        requires fits { FitsIn (places_of self.old) (line_by session (change_by edit)) }
         ensures after { OnOk result
-            (groups_of self.new ≡ after_line (line_by session (change_by edit)) (groups_of self.old)) }
+            (places_of self.new ≡ after_line (line_by session (change_by edit)) (places_of self.old)) }
         ensures told { OnOk result (script.new
-            ≡ script.old ++ told_at (line_by session (change_by edit)) (groups_of self.old session)) }
+            ≡ script.old ++ told_at (line_by session (change_by edit)) (places_of self.old session)) }
     {
-        match replace_at(&mut self.groups, session as usize, Place::Between) {
+        match replace_at(&mut self.places, session as usize, Place::Between) {
             Place::Inside(edits) => {
                 let more = with_edit(edits, edit)?;
-                replace_at(&mut self.groups, session as usize, Place::Inside(more));
+                replace_at(&mut self.places, session as usize, Place::Inside(more));
                 Ok(())
             }
             Place::Unbegun | Place::Between => {
@@ -192,10 +192,10 @@ impl OpenGroups {
     // A group begins.
     fn begin(&mut self, alloc: Global, session: u32)
         requires { session ≤ MAX_SESSIONS }
-        ensures { groups_of self.new ≡ after_line (line_by session Begin) (groups_of self.old) }
+        ensures { places_of self.new ≡ after_line (line_by session Begin) (places_of self.old) }
     {
         replace_at(
-            &mut self.groups,
+            &mut self.places,
             session as usize,
             Place::Inside(Items::new(alloc)),
         );
@@ -204,12 +204,12 @@ impl OpenGroups {
     // A group ends, and is a command.
     fn end(&mut self, session: u32, script: &mut Items<ScriptLine>) -> Result<(), Memory>
         requires session { session ≤ MAX_SESSIONS }
-        requires fits { FitsIn (groups_of self.old) (line_by session End) }
-        ensures after { groups_of self.new ≡ after_line (line_by session End) (groups_of self.old) }
+        requires fits { FitsIn (places_of self.old) (line_by session End) }
+        ensures after { places_of self.new ≡ after_line (line_by session End) (places_of self.old) }
         ensures told { OnOk result (script.new
-            ≡ script.old ++ told_at (line_by session End) (groups_of self.old session)) }
+            ≡ script.old ++ told_at (line_by session End) (places_of self.old session)) }
     {
-        match replace_at(&mut self.groups, session as usize, Place::Between) {
+        match replace_at(&mut self.places, session as usize, Place::Between) {
             Place::Inside(edits) => {
                 let command = ScriptCommand::Edit(Group::new(edits), true);
                 script.push(ScriptLine { session, command })

@@ -20,13 +20,13 @@ pub(crate) enum Place {
 
 /// Where each session stands, by the session's number. No session has number 0.
 pub(crate) struct OpenGroups {
-    pub(crate) groups: Vec<Place>,
-    ghost long: { length groups.items ≡ MAX_SESSIONS + 1 },
-    ghost small: { AreSmall groups.items },
+    pub(crate) places: Vec<Place>,
+    ghost long: { length places.items ≡ MAX_SESSIONS + 1 },
+    ghost small: { AreSmall places.items },
 }
 
 impl Drop for OpenGroups {
     fn drop(self) {
-        let OpenGroups { groups: _ } = self;
+        let OpenGroups { places: _ } = self;
     }
 }

@@ -5,11 +5,11 @@ ghost use Rattle.num_text.specs.Cuts.{field_texts, lines_of};
 ghost use Rattle.num_text.specs.Lines.{kept};
 ghost use Rattle.script_text.specs.declared.fault.ScriptCause.{ScriptCause as ACause};
 ghost use Rattle.script_text.specs.declared.script.Script.{Script as ScriptValue};
-ghost use Rattle.script_text.specs.Groups.{no_groups};
+ghost use Rattle.script_text.specs.Groups.{all_unbegun};
 ghost use Rattle.script_text.specs.ScriptFaults.{IsFaultless, IsMisplacedName, IsToldOf};
 ghost use Rattle.script_text.specs.ScriptText.{IsScript, IsTextLine};
 ghost use Rattle.script_text.specs.Steps.{AreRead, BreaksAt, BreaksIn, BreaksLimit, FitsIn, IfWrong, IsFirstIn};
-ghost use Rattle.script_text.specs.Steps.{IsMisplacedIn, IsStrayIn, StopsAt, TellsNext, groups_of};
+ghost use Rattle.script_text.specs.Steps.{IsMisplacedIn, IsStrayIn, StopsAt, TellsNext, places_of};
 ghost use Rattle.script_text.specs.Uses.{AreAmong, IsAmong, use_of, used_at};
 
 use crate::arguments::next_text;
@@ -67,8 +67,8 @@ fn read_lines(
     frameworks: u32,
     groups: &mut OpenGroups,
 ) -> Result<Script, ScriptFault>
-    requires { groups_of groups.old ≡ no_groups }
-    ensures lines { IfOk result (AreRead frameworks (kept left.entry) (groups_of groups.new)) }
+    requires { places_of groups.old ≡ all_unbegun }
+    ensures lines { IfOk result (AreRead frameworks (kept left.entry) (places_of groups.new)) }
     ensures fault { IfErr result (BreaksAt frameworks (kept left.entry)) }
 {
     let mut script = Script {
@@ -89,10 +89,10 @@ fn next_line(
     groups: &OpenGroups,
 ) -> Result<Option<TextLine>, ScriptFault>
     ensures next { IfOk result (λ next. IfSome next (TellsNext (kept left.old) (kept left.new))) }
-    ensures fits { IfOk result (λ next. IfSome next (FitsIn (groups_of groups.now))) }
+    ensures fits { IfOk result (λ next. IfSome next (FitsIn (places_of groups.now))) }
     ensures among { IfOk result (λ next. IfSome next (λ line. AreAmong frameworks (used_at line))) }
     ensures end { IfOk result (λ next. IfNone next (kept left.old ≡ [])) }
-    ensures fault { IfErr result (StopsAt frameworks (groups_of groups.now) (kept left.old)) }
+    ensures fault { IfErr result (StopsAt frameworks (places_of groups.now) (kept left.old)) }
 {
     let Some(line) = next_kept(left) else {
         return Ok(None);
@@ -115,10 +115,10 @@ fn line_in(
     groups: &OpenGroups,
 ) -> Result<TextLine, LineStop>
     ensures line { IfOk result (IsTextLine line.now.text.now) }
-    ensures fits { IfOk result (FitsIn (groups_of groups.now)) }
+    ensures fits { IfOk result (FitsIn (places_of groups.now)) }
     ensures among { IfOk result (λ told. AreAmong frameworks (used_at told)) }
     ensures wrong { IfErr result (λ halt.
-        IfWrong halt (IsFirstIn frameworks (groups_of groups.now) (field_texts line.now.text.now))) }
+        IfWrong halt (IsFirstIn frameworks (places_of groups.now) (field_texts line.now.text.now))) }
 {
     check_place(line, groups)?;
     let told = line_of(alloc, line)?;
@@ -129,9 +129,9 @@ fn line_in(
 
 // Refuses `end` outside a group, `ask` or `begin` inside one, and `use` behind a line of the session.
 fn check_place(line: &Line<'_>, groups: &OpenGroups) -> Result<(), ScriptCause>
-    ensures placed { OnOk result (¬ IsMisplacedIn (groups_of groups.now) (field_texts line.now.text.now)) }
+    ensures placed { OnOk result (¬ IsMisplacedIn (places_of groups.now) (field_texts line.now.text.now)) }
     ensures wrong { IfErr result (λ cause. (cause ≡ ScriptCause.BadCommand)
-        × IsMisplacedIn (groups_of groups.now) (field_texts line.now.text.now)) }
+        × IsMisplacedIn (places_of groups.now) (field_texts line.now.text.now)) }
 {
     let mut parts = fields(line);
     let Ok(session) = session_of(&mut parts) else {
@@ -162,8 +162,8 @@ fn is_misplaced(name: &[u8], place: &Place) -> bool
 // Refuses an edit too many, and the end of a group without edits.
 fn check_limits(told: &TextLine, groups: &OpenGroups) -> Result<(), ScriptCause>
     requires { told.now.session ≤ MAX_SESSIONS }
-    ensures fits { OnOk result ((cause : ACause) → ¬ BreaksIn (groups_of groups.now) told.now cause) }
-    ensures wrong { IfErr result (BreaksIn (groups_of groups.now) told.now) }
+    ensures fits { OnOk result ((cause : ACause) → ¬ BreaksIn (places_of groups.now) told.now cause) }
+    ensures wrong { IfErr result (BreaksIn (places_of groups.now) told.now) }
 {
     match groups.place(told.session) {
         Place::Inside(edits) => check_limit(&told.command, edits.len()),

@@ -1,7 +1,7 @@
 use Rattle.std.proofs.Common.{refl, subst, rules}
 use Rattle.std.proofs.lemmas.Bool.{false≢true}
 use Rattle.num_text.specs.Lines.{kept}
-use Rattle.script_text.specs.Steps.{AreRead, BreaksAt, groups_of}
+use Rattle.script_text.specs.Steps.{AreRead, BreaksAt, places_of}
 use Rattle.script_text.proofs.FirstFaults.{breaks_told, open_told, script_is, script_is_faultless}
 use Rattle.script_text.proofs.OneScript.{script_same}
 use Rattle.script_text.proofs.UseLemmas.{use_among}
@@ -16,7 +16,7 @@ returns-in_err-script-clause-fault c =
 
 pub returns-then-is_any_open-clause-fault : goal.returns-then-is_any_open-clause-fault
 returns-then-is_any_open-clause-fault c =
-    let groups = groups_of c.read_lines.new.groups in
+    let groups = places_of c.read_lines.new.groups in
     let read = subst (λ lines. AreRead c.args.frameworks (kept lines) groups c.in_ok-script.script) c.lines.ensures.all
     c.in_ok-script.ensures.lines in
     let opened = c.if-is_any_open.ensures.0 refl in
@@ -25,7 +25,7 @@ returns-then-is_any_open-clause-fault c =
 
 pub returns-clause-script : goal.returns-clause-script
 returns-clause-script c =
-    let groups = groups_of c.read_lines.new.groups in
+    let groups = places_of c.read_lines.new.groups in
     let read = subst (λ lines. AreRead c.args.frameworks (kept lines) groups c.in_ok-script.script) c.lines.ensures.all
     c.in_ok-script.ensures.lines in
     script_is c.args.frameworks c.args.bytes.now groups c.in_ok-script.script read
@@ -33,7 +33,7 @@ returns-clause-script c =
 
 pub returns-clause-no_other : goal.returns-clause-no_other
 returns-clause-no_other c = λ other is.
-    let groups = groups_of c.read_lines.new.groups in
+    let groups = places_of c.read_lines.new.groups in
     let read = subst (λ lines. AreRead c.args.frameworks (kept lines) groups c.in_ok-script.script) c.lines.ensures.all
     c.in_ok-script.ensures.lines in
     script_same c.args.frameworks c.args.bytes.now other c.in_ok-script.script is
@@ -42,7 +42,7 @@ returns-clause-no_other c = λ other is.
 
 pub returns-clause-faultless : goal.returns-clause-faultless
 returns-clause-faultless c =
-    let groups = groups_of c.read_lines.new.groups in
+    let groups = places_of c.read_lines.new.groups in
     let read = subst (λ lines. AreRead c.args.frameworks (kept lines) groups c.in_ok-script.script) c.lines.ensures.all
     c.in_ok-script.ensures.lines in
     script_is_faultless c.args.frameworks c.args.bytes.now c.in_ok-script.script
@@ -51,7 +51,7 @@ returns-clause-faultless c =
 
 pub returns-clause-among : goal.returns-clause-among
 returns-clause-among c = λ some session.
-    let groups = groups_of c.read_lines.new.groups in
+    let groups = places_of c.read_lines.new.groups in
     let read = subst (λ lines. AreRead c.args.frameworks (kept lines) groups c.in_ok-script.script) c.lines.ensures.all
     c.in_ok-script.ensures.lines in
     let is = script_is c.args.frameworks c.args.bytes.now groups c.in_ok-script.script read
