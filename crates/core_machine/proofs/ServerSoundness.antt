@@ -15,9 +15,9 @@ use Rattle.core_machine.specs.Core.{CoreSession, seen_framework}
 use Rattle.core_machine.specs.Steps.{Event, taken_by}
 use Rattle.core_machine.specs.Servers.{CorePart, IsFramework, IsOn, IsServerOpened, IsServerStep, Server, ServerRuns}
 use Rattle.core_machine.specs.Servers.{core_at, part_at, server_goes, server_rests, session_of_event, taken_on}
-use Rattle.core_machine.specs.ServerLaws.{AllAnswersAreRight, AllImportsSpendNothing, AllLogsAreTrue, EachHistoryIsTaken}
-use Rattle.core_machine.specs.ServerLaws.{EachSeesMoreOfItsOwn, IsServerRun, OnePoolIsValid, OthersAreUntouched}
-use Rattle.core_machine.specs.ServerLaws.{StaysAsItWas}
+use Rattle.core_machine.specs.ServerLaws.{AllAnswersAreRight, AllImportsSpendNothing, AllLogsAreTrue}
+use Rattle.core_machine.specs.ServerLaws.{EachHistoryIsTaken, EachSeesMoreOfItsOwn, IsServerRun, OnePoolIsValid}
+use Rattle.core_machine.specs.ServerLaws.{OthersAreUntouched, StaysAsItWas}
 use Rattle.core_machine.proofs.Soundness.{IsGood, answer_right, imports_spend, opened_good, same_log, step_good}
 use Rattle.core_machine.proofs.Soundness.{step_history, step_others, step_seen}
 

@@ -82,6 +82,7 @@ session_of_event (answer s asked most budget pending ending) = s
 pub record IsServerStep (server : Server) (event : Event) (new : Server) : Type 0 where
   pub k : ℕ
   pub on : IsOn server.uses (session_of_event event) k
+  pub there : IsFramework (length server.parts) k
   pub step : IsStep (core_at server k) event (core_at new k)
   pub uses : new.uses ≡ server.uses
   pub count : length new.parts ≡ length server.parts

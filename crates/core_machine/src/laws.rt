@@ -39,8 +39,8 @@ pub fn imports_spend_nothing()
     ensures { ImportsSpendNothing }
 {}
 
-/// With several frameworks, the history of each has the groups of edits that the run took on it, in order and each once;
-/// and none of their edits is refused where they are made one after the other on that framework at the beginning.
+/// With several frameworks, the history of each has the groups of edits that the run took on it, in order and each
+/// once; and none of their edits is refused where they are made one after the other on that framework at the beginning.
 pub fn each_history_is_what_was_taken()
     ensures { EachHistoryIsTaken }
 {}
@@ -51,8 +51,8 @@ pub fn each_session_sees_more_of_its_own()
     ensures { EachSeesMoreOfItsOwn }
 {}
 
-/// With several frameworks, each step of a session's log is true in every world of every framework, beside the session's
-/// side clauses.
+/// With several frameworks, each step of a session's log is true in every world of every framework, beside the
+/// session's side clauses.
 pub fn all_logs_are_true()
     ensures { AllLogsAreTrue }
 {}
