@@ -11,7 +11,7 @@ use Rattle.edit_rules.specs.Kinds.{framework_of, kind_of}
 use Rattle.edit_rules.specs.declared.framework.Framework.{Framework as Held}
 use Rattle.core_machine.specs.Core.{Core}
 use Rattle.core_machine.specs.Steps.{Event, IsStep}
-use Rattle.core_machine.specs.Servers.{CorePart, IsFramework, IsOn, IsServerOpened, IsServerStep, Server, core_at}
+use Rattle.core_machine.specs.Servers.{CorePart, IsFramework, IsOn, IsServerStep, Server, core_at}
 use Rattle.core_machine.specs.Servers.{core_with, no_part, part_at, session_of_event}
 use Rattle.core_events.specs.declared.machine.Machine.{Machine}
 use Rattle.core_events.specs.declared.machine.Part.{Part}

@@ -1,11 +1,10 @@
 //! The machine: the whole state of the core over several frameworks.
 
-ghost use Rattle.std.specs.Prelude.{◌≡◌, ◌≤◌, ℕ, ◌↔◌, length, map, IfNone, IfOk, IfSome};
+ghost use Rattle.std.specs.Prelude.{◌≡◌, map, IfNone, IfOk, IfSome};
 ghost use Rattle.edit_rules.specs.Kinds.{framework_of};
 ghost use Rattle.semantics.specs.Frameworks.{IsNumbered};
 ghost use Rattle.core_machine.specs.Servers.{IsServerStep};
 ghost use Rattle.core_machine.specs.Steps.{IsStep};
-ghost use Rattle.core_events.specs.AtHand.{core_of};
 ghost use Rattle.core_events.specs.Events.{event_of};
 ghost use Rattle.core_events.specs.Machines.{AreNewParts, IsIndexOn, IsNewMachine, IsOnNone, MayOpen, core_on};
 ghost use Rattle.core_events.specs.Machines.{new_part, part_of, server_of};

@@ -1,4 +1,4 @@
-use Rattle.std.proofs.Common.{◌≡◌, ◌<◌, ℕ, length, map, rules}
+use Rattle.std.proofs.Common.{◌≡◌, ◌<◌, length, map, rules}
 use Rattle.edit_rules.specs.Kinds.{framework_of}
 use Rattle.core_events.proofs.MachineLemmas.{part_made, parts_made}
 use Rattle.core_events.proofs.machine.parts_for.Goals as goal

@@ -1,4 +1,4 @@
-use Rattle.std.proofs.Common.{ℕ, length, map}
+use Rattle.std.proofs.Common.{length, map}
 use Rattle.edit_rules.specs.Kinds.{framework_of}
 use Rattle.core_events.proofs.MachineLemmas.{HasParts}
 use Rattle.core_events.proofs.machine.parts_for.Given as goal

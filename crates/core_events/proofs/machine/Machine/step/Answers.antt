@@ -1,4 +1,4 @@
-use Rattle.std.proofs.Common.{◌≡◌, ℕ, List, length, refl, subst}
+use Rattle.std.proofs.Common.{ℕ, List, length, refl, subst}
 use Rattle.std.specs.Vec.{with_item}
 use Rattle.core_events.specs.declared.machine.Part.{Part}
 use Rattle.core_events.specs.Events.{event_of}
