@@ -12,14 +12,14 @@ use Rattle.core_machine.specs.Core.{Core, CoreSession, seen_framework, with_sess
 use Rattle.core_machine.specs.Steps.{IsStep, answer}
 use Rattle.core_answers.specs.declared.outcome.Outcome.{Outcome}
 use Rattle.core_answers.specs.Outcomes.{Comes as ComesOut, ending_of}
-use Rattle.core_events.specs.declared.machine.Machine.{Machine}
+use Rattle.core_events.specs.declared.at_hand.CoreAtHand.{CoreAtHand}
 use Rattle.core_events.specs.declared.seats.MachineSeat.{MachineSeat}
 use Rattle.core_events.specs.Answering.{MayAnswer}
-use Rattle.core_events.specs.Machines.{core_of}
+use Rattle.core_events.specs.AtHand.{core_of}
 use Rattle.core_events.specs.Seats.{IsSeatAt, session_of}
 use Rattle.core_events.proofs.StateLemmas.{seat_number, seated, session_changed}
 
-abbrev with_answered : Machine → ℕ → MachineSeat → ℕ → Machine
+abbrev with_answered : CoreAtHand → ℕ → MachineSeat → ℕ → CoreAtHand
 with_answered m index seat answered = record m {
   seats = with_item m.seats index (record {
     number = seat.number;
@@ -57,7 +57,7 @@ not_answered core before s asked budget pending outcome b same h no_ next is =
     let may : MayAnswer before s asked budget pending outcome = (is.after, is.ends) in
     false≢true (sym no_ ∙ h.1 (subst (λ (c : Core). MayAnswer c s asked budget pending outcome) (sym same) may))
 
-answered_here : (m : Machine) (s index : ℕ) (seat : MachineSeat) (asked : Asked) (budget : ℕ) (pending : Option Pending)
+answered_here : (m : CoreAtHand) (s index : ℕ) (seat : MachineSeat) (asked : Asked) (budget : ℕ) (pending : Option Pending)
     (outcome : Outcome) (answered : ℕ) → IsSeatAt m.seats.items s index → seat ≡ get_or m.seats.items index seat
     → answered ≡ length seat.session.log.steps → MayAnswer (core_of m) s asked budget pending outcome
     → IsStep (core_of m) (answer s asked MAX_EXTENSIONS budget pending (ending_of outcome))
@@ -81,7 +81,7 @@ answered_here m s index seat asked budget pending outcome answered at read e may
           ∙ ap (λ (x : CoreSession). noted x (length x.log.steps)) (sym there));
     }
 
-pub answered_so : (before : Core) (m : Machine) (s index : ℕ) (seat : MachineSeat) (asked : Asked) (budget : ℕ)
+pub answered_so : (before : Core) (m : CoreAtHand) (s index : ℕ) (seat : MachineSeat) (asked : Asked) (budget : ℕ)
     (pending : Option Pending) (outcome : Outcome) (answered : ℕ) → core_of m ≡ before
     → IsSeatAt m.seats.items s index → seat ≡ get_or m.seats.items index seat
     → answered ≡ length seat.session.log.steps → MayAnswer (core_of m) s asked budget pending outcome

@@ -17,9 +17,9 @@ use Rattle.oracle_face.specs.Needed.{IsNeeded}
 use Rattle.session_log.specs.OwnSteps.{IsWanted}
 use Rattle.core_machine.specs.Core.{Core, with_log}
 use Rattle.core_machine.specs.Steps.{IsCalledFor, IsNamedInPool, IsNeededFor, IsStep, learn, take_in}
-use Rattle.core_events.specs.declared.machine.Machine.{Machine}
+use Rattle.core_events.specs.declared.at_hand.CoreAtHand.{CoreAtHand}
 use Rattle.core_events.specs.declared.places.IndexedEntry.{IndexedEntry}
-use Rattle.core_events.specs.Machines.{core_of}
+use Rattle.core_events.specs.AtHand.{core_of}
 use Rattle.core_events.specs.Naming.{Imports}
 use Rattle.core_events.specs.Needs.{IsNamedAmong, IsNeededAmong}
 
@@ -79,7 +79,7 @@ module _ (core : Core) (s : ℕ) (name : AxiomName) where
 
 -- ---- the pool
 
-pub named_in_pool : (m : Machine) (b : Bool) (places : List IndexedEntry) (name : AxiomName) → places ≡ m.pool.items
+pub named_in_pool : (m : CoreAtHand) (b : Bool) (places : List IndexedEntry) (name : AxiomName) → places ≡ m.pool.items
     → IsTrue b ↔ IsNamedAmong places name → IsTrue b ↔ IsNamedInPool (core_of m) name
 named_in_pool m b places name e h = (
   λ t. let w = subst (λ (ps : List IndexedEntry). IsNamedAmong ps name) e (h.0 t) in

@@ -1,6 +1,7 @@
 pub mod AnswerLemmas
 pub mod CallLemmas
 pub mod EventLemmas
+pub mod MachineLemmas
 pub mod NamingLemmas
 pub mod NeedLemmas
 pub mod PlaceLemmas

@@ -16,10 +16,10 @@ use Rattle.oracle_face.specs.Logs.{IsNumberOf, LogStep, Source, by_axiom, by_hin
 use Rattle.core_machine.specs.Core.{Core, CoreSession, put_at}
 use Rattle.session_log.specs.Imports.{name_of_step}
 use Rattle.core_machine.specs.Steps.{IsStep, origin_of, share}
-use Rattle.core_events.specs.declared.machine.Machine.{Machine}
+use Rattle.core_events.specs.declared.at_hand.CoreAtHand.{CoreAtHand}
 use Rattle.core_events.specs.declared.places.IndexedEntry.{IndexedEntry}
 use Rattle.core_events.specs.declared.seats.MachineSeat.{MachineSeat}
-use Rattle.core_events.specs.Machines.{core_of}
+use Rattle.core_events.specs.AtHand.{core_of}
 use Rattle.core_events.specs.Places.{pool_of}
 use Rattle.core_events.specs.Seats.{IsSeatAt, session_of, sessions_of}
 use Rattle.core_events.specs.Sharing.{IsEntryFor}
@@ -111,7 +111,7 @@ not_there core s k i places entry b pool here h no_ next is =
 abbrev handed : CoreSession → List ℕ → CoreSession
 handed session shared = record session { shared = shared }
 
-abbrev with_shared : Machine → ℕ → MachineSeat → Vec IndexedEntry → Vec ℕ → Machine
+abbrev with_shared : CoreAtHand → ℕ → MachineSeat → Vec IndexedEntry → Vec ℕ → CoreAtHand
 with_shared m index seat pool shared = record m {
   pool = pool;
   seats = with_item m.seats index (record {
@@ -125,7 +125,7 @@ with_shared m index seat pool shared = record m {
   });
 }
 
-pub shares : (m : Machine) (s k i index : ℕ) (seat : MachineSeat) (pool : Vec IndexedEntry) (shared : Vec ℕ)
+pub shares : (m : CoreAtHand) (s k i index : ℕ) (seat : MachineSeat) (pool : Vec IndexedEntry) (shared : Vec ℕ)
     (entry : Entry)
     → IsSeatAt m.seats.items s index → seat ≡ get_or m.seats.items index seat
     → IsEntryFor s ((core_of m).sessions s).log.steps k entry
@@ -163,7 +163,7 @@ shares m s k i index seat pool shared entry at read made place e long =
     }
 
 -- the pool is the same
-pub same_pool : (m : Machine) (pool : Vec IndexedEntry) → pool_of pool.items ≡ pool_of m.pool.items
+pub same_pool : (m : CoreAtHand) (pool : Vec IndexedEntry) → pool_of pool.items ≡ pool_of m.pool.items
     → core_of (record m { pool = pool }) ≡ core_of m
 same_pool m pool e = λ j. record (core_of m) { pool = e j }
 

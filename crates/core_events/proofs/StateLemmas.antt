@@ -6,11 +6,11 @@ use Rattle.std.specs.Vec.{with_item}
 use Rattle.std.proofs.lemmas.Bool.{cases_Bool, eqb-true, false≢true}
 use Rattle.oracle_face.specs.Logs.{OracleLog}
 use Rattle.core_machine.specs.Core.{Core, CoreSession, put_at, with_log, with_session}
-use Rattle.core_events.specs.declared.machine.Machine.{Machine}
+use Rattle.core_events.specs.declared.at_hand.CoreAtHand.{CoreAtHand}
 use Rattle.core_events.specs.declared.seats.MachineSeat.{MachineSeat}
 use Rattle.core_events.specs.declared.stop.StepStop.{StepStop}
 use Rattle.core_events.specs.declared.stop.StepStop.TheVariants.{Memory, NotAStep}
-use Rattle.core_events.specs.Machines.{core_of}
+use Rattle.core_events.specs.AtHand.{core_of}
 use Rattle.core_events.specs.Seats.{IsSeatAt, session_of}
 use Rattle.core_events.specs.Stops.{Comes}
 use Rattle.core_events.proofs.SeatLemmas.{session_replaced, session_there}
@@ -44,7 +44,7 @@ log_comes core now s P Q new (Err Memory) e to back h = e ∙ log_kept core s ne
 -- ---- machines
 
 -- one seat has another session now
-pub session_changed : (m : Machine) (s index : ℕ) (now : MachineSeat) → IsSeatAt m.seats.items s index → now.number ≡ s
+pub session_changed : (m : CoreAtHand) (s index : ℕ) (now : MachineSeat) → IsSeatAt m.seats.items s index → now.number ≡ s
     → core_of (record m { seats = with_item m.seats index now })
     ≡ with_session (core_of m) s (session_of now.session)
 session_changed m s index now at e = λ i. record (core_of m) {
@@ -52,17 +52,17 @@ session_changed m s index now at e = λ i. record (core_of m) {
 }
 
 -- the session of the seat at an index
-pub seated : (m : Machine) (s index : ℕ) (seat : MachineSeat) → IsSeatAt m.seats.items s index
+pub seated : (m : CoreAtHand) (s index : ℕ) (seat : MachineSeat) → IsSeatAt m.seats.items s index
     → seat ≡ get_or m.seats.items index seat → (core_of m).sessions s ≡ session_of seat.session
 seated m s index seat at read =
     session_there m.log_limit m.seats.items s index seat at
     ∙ ap (λ (x : MachineSeat). session_of x.session) (sym read)
 
-pub seat_number : (m : Machine) (s index : ℕ) (seat : MachineSeat) → IsSeatAt m.seats.items s index
+pub seat_number : (m : CoreAtHand) (s index : ℕ) (seat : MachineSeat) → IsSeatAt m.seats.items s index
     → seat ≡ get_or m.seats.items index seat → seat.number ≡ s
 seat_number m s index seat at read = ap (λ (x : MachineSeat). x.number) read ∙ at.is seat
 
-abbrev with_seat_log : Machine → ℕ → MachineSeat → OracleLog → Machine
+abbrev with_seat_log : CoreAtHand → ℕ → MachineSeat → OracleLog → CoreAtHand
 with_seat_log m index seat log = record m {
   seats = with_item m.seats index (record {
     number = seat.number;
@@ -75,7 +75,7 @@ with_seat_log m index seat log = record m {
   });
 }
 
-log_changed : (m : Machine) (s index : ℕ) (seat : MachineSeat) (log : OracleLog) → IsSeatAt m.seats.items s index
+log_changed : (m : CoreAtHand) (s index : ℕ) (seat : MachineSeat) (log : OracleLog) → IsSeatAt m.seats.items s index
     → seat ≡ get_or m.seats.items index seat → core_of (with_seat_log m index seat log) ≡ with_log (core_of m) s log
 log_changed m s index seat log at read =
     session_changed m s index (record {
@@ -90,7 +90,7 @@ log_changed m s index seat log at read =
     ∙ ap (λ (x : CoreSession). with_session (core_of m) s (logged x log)) (sym (seated m s index seat at read))
 
 -- an event that changes the log of a seat: what comes of the log, comes of the core
-pub seat_comes : (before : Core) (m : Machine) (s index : ℕ) (seat : MachineSeat) (P : OracleLog → OracleLog → Type 0)
+pub seat_comes : (before : Core) (m : CoreAtHand) (s index : ℕ) (seat : MachineSeat) (P : OracleLog → OracleLog → Type 0)
     (Q : Core → Core → Type 0) (new : OracleLog) (r : Result (Unit {0}) StepStop) → core_of m ≡ before
     → IsSeatAt m.seats.items s index → seat ≡ get_or m.seats.items index seat
     → ((log : OracleLog) → P ((core_of m).sessions s).log log → Q (core_of m) (with_log (core_of m) s log))

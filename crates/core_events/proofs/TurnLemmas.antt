@@ -15,11 +15,11 @@ use Rattle.edit_history.specs.declared.entry.HistoryEntry.{HistoryEntry}
 use Rattle.edit_history.specs.Entries.{IsGroup, edit_count, framework_after}
 use Rattle.core_machine.specs.Core.{Core, CoreSession, put_at}
 use Rattle.core_machine.specs.Steps.{IsStep, after_turn, commit, committed, entry_taken, refresh}
-use Rattle.core_events.specs.declared.machine.Machine.{Machine}
+use Rattle.core_events.specs.declared.at_hand.CoreAtHand.{CoreAtHand}
 use Rattle.core_events.specs.declared.seats.MachineSeat.{MachineSeat}
 use Rattle.core_events.specs.declared.stop.StepStop.{StepStop}
 use Rattle.core_events.specs.declared.stop.StepStop.TheVariants.{Memory, NotAStep}
-use Rattle.core_events.specs.Machines.{core_of}
+use Rattle.core_events.specs.AtHand.{core_of}
 use Rattle.core_events.specs.Seats.{IsSeatAt, session_of, sessions_of}
 use Rattle.core_events.specs.Stops.{Comes}
 use Rattle.core_events.specs.Turns.{Turns}
@@ -32,7 +32,7 @@ use Rattle.certificate_claims.proofs.SetTests.{chosen, passed}
 abbrev seen_now : CoreSession → ℕ → CoreSession
 seen_now session n = record session { seen = n }
 
-abbrev with_seen : Machine → ℕ → ℕ → MachineSeat → Vec HistoryEntry → ℕ → Machine
+abbrev with_seen : CoreAtHand → ℕ → ℕ → MachineSeat → Vec HistoryEntry → ℕ → CoreAtHand
 with_seen m index turns seat history seen = record m {
   history = history;
   turns = turns;
@@ -47,7 +47,7 @@ with_seen m index turns seat history seen = record m {
   });
 }
 
-module _ (m : Machine) (s index : ℕ) (seat : MachineSeat) (at : IsSeatAt m.seats.items s index)
+module _ (m : CoreAtHand) (s index : ℕ) (seat : MachineSeat) (at : IsSeatAt m.seats.items s index)
     (read : seat ≡ get_or m.seats.items index seat) where
   turned_here : (turns : ℕ) (history : Vec HistoryEntry) (seen : ℕ) (entries : List HistoryEntry) → turns ≡ m.turns + 1
       → history.items ≡ m.history.items ++ entries → seen ≡ length history.items
@@ -86,7 +86,7 @@ pub nothing_added : (entries : List HistoryEntry) → entries ≡ entries ++ []
 nothing_added entries = sym (append-nil entries)
 
 -- entries that weren't added
-pub same_history : (m : Machine) (before : Core) (history : Vec HistoryEntry) → history.items ≡ m.history.items
+pub same_history : (m : CoreAtHand) (before : Core) (history : Vec HistoryEntry) → history.items ≡ m.history.items
     → core_of m ≡ before → core_of (record m { history = history }) ≡ before
 same_history m before history e same = (λ i. record (core_of m) { history = e i }) ∙ same
 

@@ -1,4 +1,5 @@
 pub mod Answering
+pub mod AtHand
 pub mod Events
 pub mod LogEvents
 pub mod Machines

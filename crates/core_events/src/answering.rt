@@ -5,11 +5,11 @@ ghost use Rattle.semantics.specs.declared.limits.TheConstants.{MAX_EXTENSIONS};
 ghost use Rattle.core_machine.specs.Steps.{IsStep, answer};
 ghost use Rattle.core_answers.specs.Outcomes.{ending_of};
 ghost use Rattle.core_events.specs.Answering.{MayAnswer};
-ghost use Rattle.core_events.specs.Machines.{core_of};
+ghost use Rattle.core_events.specs.AtHand.{core_of};
 ghost use Rattle.core_events.specs.Seats.{IsSeatAt};
 ghost use Rattle.core_events.specs.Stops.{Comes};
 
-use crate::machine::Machine;
+use crate::at_hand::CoreAtHand;
 use crate::needs::{front, replay};
 use crate::stop::StepStop;
 use core_answers::{Outcome, may_end};
@@ -19,7 +19,7 @@ use oracle_face::Pending;
 use semantics::MAX_EXTENSIONS;
 use std::alloc::Global;
 
-impl Machine {
+impl CoreAtHand {
     /// Whether the session of a seat may answer a query so.
     fn may_answer(
         &self,

@@ -1,12 +1,13 @@
 //! The events that a machine takes.
 
+ghost use Rattle.std.specs.Prelude.{◌≡◌};
+ghost use Rattle.core_machine.specs.Servers.{session_of_event};
 ghost use Rattle.core_machine.specs.Steps.{IsStep, learn, refresh};
 ghost use Rattle.core_events.specs.Events.{event_of, source_by};
-ghost use Rattle.core_events.specs.Machines.{core_of};
-ghost use Rattle.core_events.specs.Runs.{ComeTo};
+ghost use Rattle.core_events.specs.AtHand.{core_of};
 ghost use Rattle.core_events.specs.Stops.{Comes};
 
-use crate::machine::Machine;
+use crate::at_hand::CoreAtHand;
 use crate::stop::StepStop;
 use core_answers::Outcome;
 use edit_rules::Edit;
@@ -101,10 +102,46 @@ impl Drop for Event {
     }
 }
 
-impl Machine {
-    /// Takes an event, if it is a step of the core: `NotAStep` comes exactly where it isn't. After every `Err` the
-    /// machine means the same state as before. `Memory` says that an allocation was refused.
-    pub fn step(&mut self, alloc: Global, event: &Event) -> Result<(), StepStop>
+impl Event {
+    /// The number of the event's session.
+    pub(crate) fn session(&self) -> u32
+        ensures { result ≡ session_of_event (event_of self.now) }
+    {
+        match self {
+            Event::Commit(session, _)
+            | Event::Refresh(session)
+            | Event::Learn {
+                session,
+                clause: _,
+                origin: _,
+                closing: _,
+            }
+            | Event::Side {
+                session,
+                from: _,
+                literals: _,
+            }
+            | Event::Share {
+                session,
+                step: _,
+                index: _,
+            }
+            | Event::Import { session, index: _ }
+            | Event::Answer {
+                session,
+                query: _,
+                limit: _,
+                pending: _,
+                result: _,
+            } => *session,
+        }
+    }
+}
+
+impl CoreAtHand {
+    /// Takes an event, if it is a step of the core: `NotAStep` comes exactly where it isn't. After every `Err` the core
+    /// means the same state as before. `Memory` says that an allocation was refused.
+    pub(crate) fn step(&mut self, alloc: Global, event: &Event) -> Result<(), StepStop>
         ensures { Comes (IsStep (core_of self.old) (event_of event.now)) (core_of self.old) (core_of self.new) result }
     {
         match event {
@@ -135,17 +172,6 @@ impl Machine {
                 result,
             } => self.answer(alloc, *session, query, *limit, pending, result),
         }
-    }
-
-    /// Takes events one after the other, up to the first that is no step of the core: `NotAStep` comes exactly there.
-    /// What was taken before an `Err` stays. From a machine in which nothing was done yet they are a run of the core.
-    pub fn run(&mut self, alloc: Global, events: &[Event]) -> Result<(), StepStop>
-        ensures { ComeTo (core_of self.old) events.now (core_of self.new) result }
-    {
-        for event in events {
-            self.step(alloc, event)?;
-        }
-        Ok(())
     }
 
     /// A session looks at all edits.

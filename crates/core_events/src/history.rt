@@ -5,11 +5,11 @@ ghost use Rattle.std.specs.Bool.{OnFalse, OnTrue};
 ghost use Rattle.std.specs.Prelude.{◌↔◌, IsTrue};
 ghost use Rattle.core_machine.specs.Steps.{IsStep, commit};
 ghost use Rattle.edit_history.specs.Entries.{IsGroup};
-ghost use Rattle.core_events.specs.Machines.{core_of};
+ghost use Rattle.core_events.specs.AtHand.{core_of};
 ghost use Rattle.core_events.specs.Stops.{Comes};
 ghost use Rattle.core_events.specs.Turns.{IsCommitted, Turns};
 
-use crate::machine::Machine;
+use crate::at_hand::CoreAtHand;
 use crate::needs::{copy_edits, edits_in, replay};
 use crate::stop::StepStop;
 use edit_groups::{GroupFault, apply_group};
@@ -53,7 +53,7 @@ fn is_group(edits: &[Edit]) -> bool
     edits.len() <= MAX_GROUP
 }
 
-impl Machine {
+impl CoreAtHand {
     /// Whether a commit adds the group: the history has room, and the framework after it takes the group.
     fn takes(&self, alloc: Global, session: u32, edits: &[Edit]) -> Result<bool, Memory>
         ensures { IfOk result (IsCommitted (core_of self.now) session edits.now) }

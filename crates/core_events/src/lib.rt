@@ -2,6 +2,7 @@
 #![tactic(auto)]
 
 pub mod answering;
+pub mod at_hand;
 pub mod event;
 pub mod history;
 pub mod laws;

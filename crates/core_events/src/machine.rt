@@ -1,196 +1,190 @@
-//! The machine: the whole state of the core.
+//! The machine: the whole state of the core over several frameworks.
 
-ghost use Rattle.std.specs.Prelude.{◌≡◌, ◌↔◌, false, IfOk, IsTrue};
+ghost use Rattle.std.specs.Prelude.{◌≡◌, map, IfNone, IfOk, IfSome};
 ghost use Rattle.edit_rules.specs.Kinds.{framework_of};
-ghost use Rattle.meaning_atoms.specs.AxiomNames.{IsAxiomName};
-ghost use Rattle.oracle_face.specs.Logs.{by_axiom, by_hints, is_loop};
-ghost use Rattle.session_log.specs.OwnSteps.{IsWanted};
-ghost use Rattle.core_machine.specs.Steps.{IsCalledFor, IsStep, learn, side, take_in};
-ghost use Rattle.core_events.specs.Machines.{IsNewMachine, core_of};
-ghost use Rattle.core_events.specs.Seats.{IsSeatAt};
+ghost use Rattle.semantics.specs.Frameworks.{IsNumbered};
+ghost use Rattle.core_machine.specs.Servers.{IsServerStep};
+ghost use Rattle.core_machine.specs.Steps.{IsStep};
+ghost use Rattle.core_events.specs.Events.{event_of};
+ghost use Rattle.core_events.specs.Machines.{AreNewParts, IsIndexOn, IsNewMachine, IsOnNone, MayOpen, core_on};
+ghost use Rattle.core_events.specs.Machines.{new_part, part_of, server_of};
+ghost use Rattle.core_events.specs.Runs.{ComeTo};
 ghost use Rattle.core_events.specs.Stops.{Comes};
 
-use crate::log_events::{derive, keep_side, take_axiom};
-use crate::naming::import;
-use crate::needs::{front, is_axiom_of, is_named, is_needed_among};
-use crate::places::{IndexedEntry, find_entry};
-use crate::seats::{MachineSeat, seat_of};
+use crate::at_hand::CoreAtHand;
+use crate::event::Event;
 use crate::stop::StepStop;
-use certificate_claims::clause_of_axiom;
-use core_logs::checking::is_new;
-use core_logs::sources::is_loop_clause;
 use edit_history::HistoryEntry;
 use edit_rules::Framework;
-use lists::Memory;
-use meaning_atoms::{AtomLit, AxiomName};
-use plain_lits::StepId;
-use set_lists::NumSet;
+use lists::{Items, Memory};
 use std::alloc::Global;
+use std::mem::swap;
 
-/// One framework that sessions edit, how many edits there may be, how long a session's log may be, the edits that were
-/// taken, the number of turns, the pool, and the sessions.
-pub struct Machine {
+/// What a framework has of its own: how it was at the beginning, the edits that were taken, and the number of turns.
+pub struct Part {
     pub(crate) opening: Framework,
-    pub(crate) limit: u64,
-    pub(crate) log_limit: u64,
     pub(crate) history: Vec<HistoryEntry>,
     pub(crate) turns: u64,
-    pub(crate) pool: Vec<IndexedEntry>,
-    pub(crate) seats: Vec<MachineSeat>,
+}
+
+impl Drop for Part {
+    fn drop(self) {
+        let Part {
+            opening: _,
+            history: _,
+            turns: _,
+        } = self;
+    }
+}
+
+/// Frameworks that sessions edit, the number of the framework of each session, and what all share: the pool, the
+/// sessions, and how many edits each history may have and each log steps. A framework is at hand during an event alone.
+pub struct Machine {
+    pub(crate) parts: Vec<Part>,
+    pub(crate) uses: Vec<u32>,
+    pub(crate) core: CoreAtHand,
 }
 
 impl Drop for Machine {
     fn drop(self) {
         let Machine {
-            opening: _,
-            limit: _,
-            log_limit: _,
-            history: _,
-            turns: _,
-            pool: _,
-            seats: _,
+            parts: _,
+            uses: _,
+            core: _,
         } = self;
     }
 }
 
+/// A framework in which nothing was done yet.
+fn part_for(alloc: Global, framework: Framework) -> Part
+    ensures is { part_of result ≡ new_part (framework_of framework) }
+    ensures form { IsNumbered (framework_of framework) }
+{
+    let _kind = framework.kind();
+    Part {
+        opening: framework,
+        history: Vec::new(alloc),
+        turns: 0,
+    }
+}
+
+/// Frameworks in which nothing was done yet.
+fn parts_for(alloc: Global, frameworks: Vec<Framework>) -> Result<Vec<Part>, Memory>
+    ensures { IfOk result (λ parts. AreNewParts (map framework_of frameworks.items) parts.items) }
+{
+    let mut rest = frameworks;
+    let mut parts = Vec::new(alloc);
+    while !rest.is_empty() {
+        let framework = rest.remove(0);
+        parts.push(part_for(alloc, framework))?;
+    }
+    Ok(parts)
+}
+
+/// The same numbers again.
+fn copy_numbers(alloc: Global, numbers: &[u32]) -> Result<Vec<u32>, Memory>
+    ensures { IfOk result (λ all. all.items ≡ numbers.now) }
+{
+    let mut all = Vec::new(alloc);
+    all.extend_from_slice(numbers)?;
+    Ok(all)
+}
+
+/// The index of the framework of a session, where there is one.
+fn index_on(uses: &[u32], count: usize, session: u32) -> Option<usize>
+    ensures some { IfSome result (IsIndexOn uses.now count session) }
+    ensures none { IfNone result (IsOnNone uses.now count session) }
+{
+    if session == 0 || session as usize > uses.len() {
+        return None;
+    }
+    let number = uses[session as usize - 1] as usize;
+    if number == 0 || number > count {
+        return None;
+    }
+    Some(number - 1)
+}
+
+/// What a framework has of its own changes places with what is at hand.
+fn exchange(core: &mut CoreAtHand, part: &mut Part)
+    ensures core { core.new ≡ record core.old {
+      opening = part.old.opening;
+      history = part.old.history;
+      turns = part.old.turns;
+    } }
+    ensures part { part.new ≡ record {
+      opening = core.old.opening;
+      history = core.old.history;
+      turns = core.old.turns;
+    } }
+{
+    swap(&mut core.opening, &mut part.opening);
+    swap(&mut core.history, &mut part.history);
+    swap(&mut core.turns, &mut part.turns);
+}
+
+/// Takes an event of a session of the framework, if it is a step there.
+fn step_on(
+    core: &mut CoreAtHand,
+    part: &mut Part,
+    alloc: Global,
+    event: &Event,
+) -> Result<(), StepStop>
+    ensures { Comes (IsStep (core_on core.old part.old) (event_of event.now)) (core_on core.old part.old)
+        (core_on core.new part.new) result }
+{
+    exchange(core, part);
+    let stop = core.step(alloc, event);
+    exchange(core, part);
+    stop
+}
+
 impl Machine {
-    /// The machine over a framework in which nothing was done yet. `limit` is how many edits its history may have,
-    /// `log_limit` how many steps each session's log may have.
+    /// The machine over frameworks in which nothing was done yet; the framework of session s, counted from 1 as the
+    /// sessions are, is that of number `uses[s - 1]`. `limit` is how many edits each history may have, `log_limit` how
+    /// many steps each session's log may have.
     pub fn open(
         alloc: Global,
-        framework: Framework,
+        frameworks: Items<Framework>,
+        uses: &[u32],
         limit: u64,
         log_limit: u64,
     ) -> Result<Machine, Memory>
-        ensures { IfOk result (IsNewMachine (framework_of framework) limit log_limit) }
+        requires { MayOpen (map framework_of frameworks) uses.now }
+        ensures { IfOk result (IsNewMachine (map framework_of frameworks) uses.now limit log_limit) }
     {
-        let _kind = framework.kind();
+        let parts = parts_for(alloc, frameworks.into_vec())?;
+        let numbers = copy_numbers(alloc, uses)?;
+        let core = CoreAtHand::without_framework(alloc, limit, log_limit)?;
         Ok(Machine {
-            opening: framework,
-            limit,
-            log_limit,
-            history: Vec::new(alloc),
-            turns: 0,
-            pool: Vec::new(alloc),
-            seats: Vec::new(alloc),
+            parts,
+            uses: numbers,
+            core,
         })
     }
 
-    /// The index of a session's seat, which is made if there is none. What the machine means stays.
-    pub(crate) fn seat(&mut self, alloc: Global, session: u32) -> Result<usize, Memory>
-        ensures at { IfOk result (IsSeatAt self.new.seats.items session) }
-        ensures same { core_of self.new ≡ core_of self.old }
+    /// Takes an event, if it is a step of the core of its session's framework: `NotAStep` comes exactly where it isn't,
+    /// as for a session that is on no framework. After every `Err` the machine means the same state as before. `Memory`
+    /// says that an allocation was refused.
+    pub fn step(&mut self, alloc: Global, event: &Event) -> Result<(), StepStop>
+        ensures { Comes (IsServerStep (server_of self.old) (event_of event.now)) (server_of self.old)
+            (server_of self.new) result }
     {
-        seat_of(alloc, &mut self.seats, self.log_limit, session)
-    }
-
-    /// A session derives a clause by hints.
-    pub(crate) fn learn_derived(
-        &mut self,
-        alloc: Global,
-        session: u32,
-        clause: &[AtomLit],
-        hints: &[StepId],
-        closing: bool,
-    ) -> Result<(), StepStop>
-        ensures { Comes (IsStep (core_of self.old) (learn session clause.now (by_hints hints.now) closing))
-            (core_of self.old) (core_of self.new) result }
-    {
-        let index = self.seat(alloc, session)?;
-        derive(
-            alloc,
-            &mut self.seats[index].session.log,
-            clause,
-            hints,
-            closing,
-        )
-    }
-
-    /// Whether an axiom of the framework's kind may come: a loop clause where it is new, any other where it is called
-    /// for.
-    fn is_wanted(
-        &self,
-        alloc: Global,
-        session: u32,
-        index: usize,
-        name: &AxiomName,
-    ) -> Result<bool, Memory>
-        requires at { IsSeatAt self.now.seats.items session index }
-        requires name { IsAxiomName name.now }
-        ensures { IfOk result (λ is. IsTrue is ↔ IsWanted (IsCalledFor (core_of self.now) session)
-            ((core_of self.now).sessions session).log name.now (is_loop name.now)) }
-    {
-        if is_loop_clause(name) {
-            let clause = clause_of_axiom(alloc, name)?;
-            return Ok(is_new(self.seats[index].session.log.steps(), clause.as_slice()));
-        }
-        self.is_called_for(alloc, session, index, name)
-    }
-
-    /// Whether a framework that the session of a seat has seen needs an axiom, or the pool names it.
-    fn is_called_for(
-        &self,
-        alloc: Global,
-        session: u32,
-        index: usize,
-        name: &AxiomName,
-    ) -> Result<bool, Memory>
-        requires { IsSeatAt self.now.seats.items session index }
-        ensures { IfOk result (λ is. IsTrue is ↔ IsCalledFor (core_of self.now) session name.now) }
-    {
-        if is_named(self.pool.as_slice(), name) {
-            return Ok(true);
-        }
-        let seen = front(self.history.as_slice(), self.seats[index].session.seen);
-        is_needed_among(alloc, &self.opening, seen, name)
-    }
-
-    /// A session takes an axiom.
-    pub(crate) fn learn_axiom(
-        &mut self,
-        alloc: Global,
-        session: u32,
-        clause: &[AtomLit],
-        name: &AxiomName,
-        closing: bool,
-    ) -> Result<(), StepStop>
-        ensures { Comes (IsStep (core_of self.old) (learn session clause.now (by_axiom name.now) closing))
-            (core_of self.old) (core_of self.new) result }
-    {
-        if closing || !is_axiom_of(&self.opening, name) {
-            return Err(StepStop::NotAStep);
-        }
-        let index = self.seat(alloc, session)?;
-        if !self.is_wanted(alloc, session, index, name)? {
-            return Err(StepStop::NotAStep);
-        }
-        take_axiom(alloc, &mut self.seats[index].session.log, name, clause)
-    }
-
-    /// A session keeps a side clause that is made from a set.
-    pub(crate) fn keep_side(
-        &mut self,
-        alloc: Global,
-        session: u32,
-        set: &NumSet,
-        literals: &[AtomLit],
-    ) -> Result<(), StepStop>
-        ensures { Comes (IsStep (core_of self.old) (side session set.now literals.now))
-            (core_of self.old) (core_of self.new) result }
-    {
-        let index = self.seat(alloc, session)?;
-        keep_side(alloc, &mut self.seats[index].session.log, literals, set)
-    }
-
-    /// A session takes an entry from the pool.
-    pub(crate) fn import(&mut self, alloc: Global, session: u32, place: u64) -> Result<(), StepStop>
-        ensures { Comes (IsStep (core_of self.old) (take_in session place)) (core_of self.old) (core_of self.new) result }
-    {
-        let index = self.seat(alloc, session)?;
-        let Some(entry) = find_entry(self.pool.as_slice(), place) else {
+        let count = self.parts.as_slice().len();
+        let Some(index) = index_on(self.uses.as_slice(), count, event.session()) else {
             return Err(StepStop::NotAStep);
         };
-        let log = &mut self.seats[index].session.log;
-        import(alloc, &self.opening, session, log, entry)
+        step_on(&mut self.core, &mut self.parts[index], alloc, event)
+    }
+
+    /// Takes events one after the other, up to the first that is no step of the core: `NotAStep` comes exactly there.
+    /// What was taken before an `Err` stays. From a machine in which nothing was done yet they are a run of the core.
+    pub fn run(&mut self, alloc: Global, events: &[Event]) -> Result<(), StepStop>
+        ensures { ComeTo (server_of self.old) events.now (server_of self.new) result }
+    {
+        for event in events {
+            self.step(alloc, event)?;
+        }
+        Ok(())
     }
 }

@@ -5,13 +5,13 @@ ghost use Rattle.core_logs.specs.Sources.{source_of};
 ghost use Rattle.core_machine.specs.Core.{put_at};
 ghost use Rattle.session_log.specs.Imports.{name_in_log, name_of_step};
 ghost use Rattle.core_machine.specs.Steps.{IsStep, share};
-ghost use Rattle.core_events.specs.Machines.{core_of};
+ghost use Rattle.core_events.specs.AtHand.{core_of};
 ghost use Rattle.core_events.specs.Places.{pool_of};
 ghost use Rattle.core_events.specs.Seats.{IsSeatAt};
 ghost use Rattle.core_events.specs.Sharing.{EntryForSome, IsEntryFor, OriginOfSome};
 ghost use Rattle.core_events.specs.Stops.{Comes};
 
-use crate::machine::Machine;
+use crate::at_hand::CoreAtHand;
 use crate::places::{IndexedEntry, find_entry};
 use crate::stop::StepStop;
 use core_logs::equality::entries_are_equal;
@@ -179,7 +179,7 @@ fn with_first(alloc: Global, first: StepId, steps: &[StepId]) -> Result<Vec<Step
     Ok(all)
 }
 
-impl Machine {
+impl CoreAtHand {
     /// A session hands a step's clause to the pool.
     pub(crate) fn share(
         &mut self,

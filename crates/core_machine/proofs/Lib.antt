@@ -1,1 +1,2 @@
+pub mod ServerSoundness
 pub mod Soundness

@@ -1,5 +1,5 @@
 -- What each step of the core keeps, and so every run.
-use Rattle.std.proofs.Common.{◌≡◌, ◌∙◌, ℕ, ◌+◌, ◌==◌, ◌≤◌, Bool, List, [], ◌∷◌, ◌++◌, length, take, refl, sym, ap}
+use Rattle.std.proofs.Common.{◌≡◌, ◌∙◌, ℕ, ◌+◌, ◌==◌, ◌≢◌, ◌≤◌, Bool, List, [], ◌∷◌, ◌++◌, length, take, refl, sym, ap}
 use Rattle.std.proofs.Common.{subst, arith, Option, Some, None, Result, Ok, Err}
 use Rattle.std.specs.Prelude.{nat_le, All}
 use Rattle.std.proofs.lemmas.Bool.{cond_both, eq-eqb, eqb-true, false≢true}
@@ -48,6 +48,7 @@ use Rattle.certificate_making.specs.Accepted.{HasAccepted}
 use Rattle.certificate_making.proofs.Existing.{shown_is_accepted}
 use Rattle.core_machine.specs.Core.{Core, CoreSession, IsOpened, put_at, seen_framework, with_log, with_session}
 use Rattle.core_machine.specs.Laws.{IsRun}
+use Rattle.core_machine.specs.Servers.{session_of_event}
 use Rattle.core_machine.specs.Steps.{Event, IsStep, LearnsTo, Runs, Shares, TakesByOrigin, TakesFromPool, after_turn}
 use Rattle.core_machine.specs.Steps.{answer, commit, committed, entry_taken, goes, learn, refresh, rests, share, side}
 use Rattle.core_machine.specs.Steps.{take_in, taken_by}
@@ -55,7 +56,7 @@ use Rattle.core_machine.specs.Steps.{take_in, taken_by}
 -- ---- one place changes
 
 -- what holds of the new item and of each old one holds at each place
-put_keeps : {X : Type 0} (P : ℕ → X → Type 0) (n : ℕ) (x : X) (items : ℕ → X) → P n x
+pub put_keeps : {X : Type 0} (P : ℕ → X → Type 0) (n : ℕ) (x : X) (items : ℕ → X) → P n x
     → ((m : ℕ) → P m (items m)) → (m : ℕ) → P m (put_at n x items m)
 put_keeps P n x items new old m =
     cond_both (m == n) x (items m) (λ y. P m y) (λ is. subst (λ k. P k x) (sym (eqb-true m n is)) new) (λ other. old m)
@@ -80,7 +81,7 @@ same_given f g sides before clause (by_axiom name) kinds given = (same_axioms f 
 same_given f g sides before clause (by_side n) kinds given = given
 same_given f g sides before clause (by_hints hints) kinds given = given
 
-same_log : (f g : Framework) (log : OracleLog) → kind_of f ≡ kind_of g → IsLog f log → IsLog g log
+pub same_log : (f g : Framework) (log : OracleLog) → kind_of f ≡ kind_of g → IsLog f log → IsLog g log
 same_log f g log kinds form = record {
   each = λ k within. same_given f g log.sides _ _ _ kinds (form.each k within);
   plain = form.plain;
@@ -97,21 +98,21 @@ taken_more f (x ∷ edits) more taken is = (taken.0, taken_more (after_edit f x)
 
 -- ---- what holds at each moment
 
--- the edits of the history are taken, none of them refused; no session has seen more than there is, and each has a
--- guarded log; and each entry of the pool may be shared
-pub record IsGood (core : Core) : Type 0 where
+-- the edits of the history are taken, none of them refused; no session of the framework has seen more than there is,
+-- and each session has a guarded log; and each entry of the pool may be shared
+pub record IsGood (Mine : ℕ → Type 0) (core : Core) : Type 0 where
   pub numbered : IsNumbered core.opening
   pub taken : AreTaken core.opening (edits_of core.history)
-  pub seen : (s : ℕ) → (core.sessions s).seen ≤ length core.history
+  pub seen : (s : ℕ) → Mine s → (core.sessions s).seen ≤ length core.history
   pub form : (s : ℕ) → IsLog core.opening (core.sessions s).log
   pub guards : (s : ℕ) → IsGuarded (core.sessions s).log
   pub pool : (i : ℕ) (entry : PoolEntry) → core.pool i ≡ Some entry → IsShareable entry
 
-opened_good : (core : Core) → IsOpened core → IsNumbered core.opening → IsGood core
-opened_good core opened numbered = record {
+pub opened_good : {Mine : ℕ → Type 0} → (core : Core) → IsOpened core → IsNumbered core.opening → IsGood Mine core
+opened_good {Mine} core opened numbered = record {
   numbered = numbered;
   taken = subst (λ history. AreTaken core.opening (edits_of history)) (sym opened.no_history) tt;
-  seen = λ s. omega (arith, opened.none_seen s);
+  seen = λ s mine. omega (arith, opened.none_seen s);
   form = λ s. (opened_guarded core.opening (core.sessions s).log (opened.no_steps s) (opened.no_sides s)).0;
   guards = λ s. (opened_guarded core.opening (core.sessions s).log (opened.no_steps s) (opened.no_sides s)).1;
   pool = λ i entry is. let e : None ≡ Some entry = sym (opened.no_pool i) ∙ is in cc;
@@ -119,37 +120,38 @@ opened_good core opened numbered = record {
 
 -- ---- edits
 
-turned_good : (core : Core) (s : ℕ) (entries : List HistoryEntry) → IsGood core
-    → AreTaken core.opening (edits_of (core.history ++ entries)) → IsGood (after_turn core s entries)
-turned_good core s entries good taken =
+turned_good : {Mine : ℕ → Type 0} → (core : Core) (s : ℕ) (entries : List HistoryEntry) → IsGood Mine core
+    → AreTaken core.opening (edits_of (core.history ++ entries)) → IsGood Mine (after_turn core s entries)
+turned_good {Mine} core s entries good taken =
     let all = core.history ++ entries in
     let session : CoreSession = record (core.sessions s) { seen = length all } in
     let longer : length core.history ≤ length all = omega (arith, length-append core.history entries) in
     record {
       numbered = good.numbered;
       taken = taken;
-      seen = put_keeps (λ m (x : CoreSession). x.seen ≤ length all) s session core.sessions (omega arith)
-          (λ m. let low = good.seen m in omega arith);
+      seen = put_keeps (λ m (x : CoreSession). Mine m → x.seen ≤ length all) s session core.sessions
+          (λ mine. omega arith) (λ m mine. let low = good.seen m mine in omega arith);
       form = put_keeps (λ m (x : CoreSession). IsLog core.opening x.log)
           s session core.sessions (good.form s) good.form;
       guards = put_keeps (λ m (x : CoreSession). IsGuarded x.log) s session core.sessions (good.guards s) good.guards;
       pool = good.pool;
     }
 
-entry_added : (core : Core) (s : ℕ) (edits : List Edit) (told : Result (List Effect) (ℕ × EditFault)) → IsGood core
+entry_added : {Mine : ℕ → Type 0}
+    → (core : Core) (s : ℕ) (edits : List Edit) (told : Result (List Effect) (ℕ × EditFault)) → IsGood Mine core
     → group_told (framework_after core.opening core.history) edits ≡ told
     → AreTaken core.opening (edits_of (core.history ++ entry_taken s edits told))
-entry_added core s edits (Ok effects) good is =
+entry_added {Mine} core s edits (Ok effects) good is =
     let entry : HistoryEntry = record { session = s; edits = edits } in
     subst (AreTaken core.opening) (sym (edits_more core.history entry))
     (taken_more core.opening (edits_of core.history) edits good.taken
     (group_taken (framework_after core.opening core.history) edits effects is))
-entry_added core s edits (Err refused) good is =
+entry_added {Mine} core s edits (Err refused) good is =
     subst (λ entries. AreTaken core.opening (edits_of entries)) (sym (append-nil core.history)) good.taken
 
-commit_taken : (core : Core) (s : ℕ) (edits : List Edit) → IsGood core
+commit_taken : {Mine : ℕ → Type 0} → (core : Core) (s : ℕ) (edits : List Edit) → IsGood Mine core
     → AreTaken core.opening (edits_of (core.history ++ committed core s edits))
-commit_taken core s edits good =
+commit_taken {Mine} core s edits good =
     let told = group_told (framework_after core.opening core.history) edits in
     cond_both (nat_le (edit_count core.history + length edits) core.limit) (entry_taken s edits told) []
     (λ entries. AreTaken core.opening (edits_of (core.history ++ entries)))
@@ -158,28 +160,30 @@ commit_taken core s edits good =
 
 -- ---- logs
 
-logged_good : (core : Core) (s : ℕ) (log : OracleLog) → IsGood core → IsLog core.opening log → IsGuarded log
-    → IsGood (with_log core s log)
-logged_good core s log good form guards =
+logged_good : {Mine : ℕ → Type 0}
+    → (core : Core) (s : ℕ) (log : OracleLog) → IsGood Mine core → IsLog core.opening log → IsGuarded log
+    → IsGood Mine (with_log core s log)
+logged_good {Mine} core s log good form guards =
     let session : CoreSession = record (core.sessions s) { log = log } in
     record {
       numbered = good.numbered;
       taken = good.taken;
-      seen = put_keeps (λ m (x : CoreSession). x.seen ≤ length core.history)
+      seen = put_keeps (λ m (x : CoreSession). Mine m → x.seen ≤ length core.history)
           s session core.sessions (good.seen s) good.seen;
       form = put_keeps (λ m (x : CoreSession). IsLog core.opening x.log) s session core.sessions form good.form;
       guards = put_keeps (λ m (x : CoreSession). IsGuarded x.log) s session core.sessions guards good.guards;
       pool = good.pool;
     }
 
-learned_good : (core : Core) (s : ℕ) (clause : List AtomLit) (source : Source) (closing : Bool) (log : OracleLog)
-    → IsGood core → LearnsTo core s clause source closing log → IsGood (with_log core s log)
-learned_good core s clause (by_axiom name) closing log good learns =
+learned_good : {Mine : ℕ → Type 0}
+    → (core : Core) (s : ℕ) (clause : List AtomLit) (source : Source) (closing : Bool) (log : OracleLog)
+    → IsGood Mine core → LearnsTo core s clause source closing log → IsGood Mine (with_log core s log)
+learned_good {Mine} core s clause (by_axiom name) closing log good learns =
     let stays = axiom_stays core.opening name clause (core.sessions s).log log (good.form s) (good.guards s)
     learns.1.of_kind learns.1.takes in
     logged_good core s log good stays.form stays.guards
-learned_good core s clause (by_side n) closing log good learns = absurd learns
-learned_good core s clause (by_hints hints) closing log good learns =
+learned_good {Mine} core s clause (by_side n) closing log good learns = absurd learns
+learned_good {Mine} core s clause (by_hints hints) closing log good learns =
     let stays = derived_stays core.opening clause hints None closing
     (core.sessions s).log log (good.form s) (good.guards s)
     learns.derives in
@@ -187,8 +191,9 @@ learned_good core s clause (by_hints hints) closing log good learns =
 
 -- ---- the pool
 
-shared_good : (core new : Core) (s k i : ℕ) → IsGood core → Shares core s k i new → IsGood new
-shared_good core new s k i good shares =
+shared_good : {Mine : ℕ → Type 0}
+    → (core new : Core) (s k i : ℕ) → IsGood Mine core → Shares core s k i new → IsGood Mine new
+shared_good {Mine} core new s k i good shares =
     let may = step_shared core.opening (core.sessions s).log k (good.form s) (good.guards s) shares.step shares.plain in
     let entry = shares.entry in
     let shareable : IsShareable entry = record {
@@ -197,10 +202,10 @@ shared_good core new s k i good shares =
       within = subst (All IsLit) (sym shares.clause) may.within;
     } in
     let session : CoreSession = record (core.sessions s) { shared = k ∷ (core.sessions s).shared } in
-    subst IsGood (sym shares.is) (record {
+    subst (IsGood Mine) (sym shares.is) (record {
       numbered = good.numbered;
       taken = good.taken;
-      seen = put_keeps (λ m (x : CoreSession). x.seen ≤ length core.history)
+      seen = put_keeps (λ m (x : CoreSession). Mine m → x.seen ≤ length core.history)
           s session core.sessions (good.seen s) good.seen;
       form = put_keeps (λ m (x : CoreSession). IsLog core.opening x.log)
           s session core.sessions (good.form s) good.form;
@@ -224,11 +229,12 @@ origin_stays f s entry (OfAxiom name) old new form guards may shown takes =
 origin_stays f s entry (Hints names) old new form guards may shown takes =
     entry_stays s entry old new takes f form guards may
 
-taken_in_good : (core new : Core) (s i : ℕ) → IsGood core → TakesFromPool core s i new → IsGood new
-taken_in_good core new s i good takes =
+taken_in_good : {Mine : ℕ → Type 0}
+    → (core new : Core) (s i : ℕ) → IsGood Mine core → TakesFromPool core s i new → IsGood Mine new
+taken_in_good {Mine} core new s i good takes =
     let stays = origin_stays core.opening s takes.entry takes.entry.origin (core.sessions s).log takes.log
     (good.form s) (good.guards s) (good.pool i takes.entry takes.there) takes.may.shown takes.takes in
-    subst IsGood (sym takes.is) (logged_good core s takes.log good stays.form stays.guards)
+    subst (IsGood Mine) (sym takes.is) (logged_good core s takes.log good stays.form stays.guards)
 
 -- it spends nothing
 origin_spends : (f : Framework) (s : ℕ) (entry : PoolEntry) (origin : EntryOrigin) (old new : OracleLog)
@@ -251,14 +257,14 @@ imports_spend f core new s i step =
     subst (λ (log : OracleLog). Spends f (core.sessions s).log log 0 0) (sym there)
     (origin_spends f s step.entry step.entry.origin (core.sessions s).log step.log step.takes)
 
-answered_good : (core : Core) (s n : ℕ) → IsGood core
-    → IsGood (with_session core s (record (core.sessions s) { answered = n }))
-answered_good core s n good =
+answered_good : {Mine : ℕ → Type 0} → (core : Core) (s n : ℕ) → IsGood Mine core
+    → IsGood Mine (with_session core s (record (core.sessions s) { answered = n }))
+answered_good {Mine} core s n good =
     let session : CoreSession = record (core.sessions s) { answered = n } in
     record {
       numbered = good.numbered;
       taken = good.taken;
-      seen = put_keeps (λ m (x : CoreSession). x.seen ≤ length core.history)
+      seen = put_keeps (λ m (x : CoreSession). Mine m → x.seen ≤ length core.history)
           s session core.sessions (good.seen s) good.seen;
       form = put_keeps (λ m (x : CoreSession). IsLog core.opening x.log)
           s session core.sessions (good.form s) good.form;
@@ -268,24 +274,25 @@ answered_good core s n good =
 
 -- ---- steps
 
-step_good : (core new : Core) (event : Event) → IsGood core → IsStep core event new → IsGood new
-step_good core new (commit s edits) good is =
-    subst IsGood (sym is.1) (turned_good core s (committed core s edits) good (commit_taken core s edits good))
-step_good core new (refresh s) good is =
-    subst IsGood (sym is) (turned_good core s [] good
+pub step_good : {Mine : ℕ → Type 0} → (core new : Core) (event : Event) → IsGood Mine core → IsStep core event new
+    → IsGood Mine new
+step_good {Mine} core new (commit s edits) good is =
+    subst (IsGood Mine) (sym is.1) (turned_good core s (committed core s edits) good (commit_taken core s edits good))
+step_good {Mine} core new (refresh s) good is =
+    subst (IsGood Mine) (sym is) (turned_good core s [] good
     (subst (λ entries. AreTaken core.opening (edits_of entries)) (sym (append-nil core.history)) good.taken))
-step_good core new (learn s clause source closing) good is =
-    subst IsGood (sym is.2) (learned_good core s clause source closing is.0 good is.1)
-step_good core new (side s set literals) good is =
+step_good {Mine} core new (learn s clause source closing) good is =
+    subst (IsGood Mine) (sym is.2) (learned_good core s clause source closing is.0 good is.1)
+step_good {Mine} core new (side s set literals) good is =
     let stays = side_stays core.opening literals set is.1.0
     (core.sessions s).log is.0 (good.form s) (good.guards s) is.1.1 in
-    subst IsGood (sym is.2) (logged_good core s is.0 good stays.form stays.guards)
-step_good core new (share s k i) good is = shared_good core new s k i good is
-step_good core new (take_in s i) good is = taken_in_good core new s i good is
-step_good core new (answer s asked most budget pending ending) good is =
-    subst IsGood (sym is.is) (answered_good core s (length (core.sessions s).log.steps) good)
+    subst (IsGood Mine) (sym is.2) (logged_good core s is.0 good stays.form stays.guards)
+step_good {Mine} core new (share s k i) good is = shared_good core new s k i good is
+step_good {Mine} core new (take_in s i) good is = taken_in_good core new s i good is
+step_good {Mine} core new (answer s asked most budget pending ending) good is =
+    subst (IsGood Mine) (sym is.is) (answered_good core s (length (core.sessions s).log.steps) good)
 
-step_history : (core new : Core) (event : Event) → IsStep core event new
+pub step_history : (core new : Core) (event : Event) → IsStep core event new
     → (new.opening ≡ core.opening) × (new.history ≡ core.history ++ taken_by core event)
 step_history core new (commit s edits) is = (ap (λ (c : Core). c.opening) is.1, ap (λ (c : Core). c.history) is.1)
 step_history core new (refresh s) is = (ap (λ (c : Core). c.opening) is, ap (λ (c : Core). c.history) is)
@@ -310,36 +317,80 @@ seen_in : (core old new : Core) (s : ℕ) → new ≡ old → (core.sessions s).
     → (core.sessions s).seen ≤ (new.sessions s).seen
 seen_in core old new s is le = subst (λ (c : Core). (core.sessions s).seen ≤ (c.sessions s).seen) (sym is) le
 
-turned_seen : (core : Core) (n : ℕ) (entries : List HistoryEntry) → IsGood core → (s : ℕ)
-    → (core.sessions s).seen ≤ ((after_turn core n entries).sessions s).seen
-turned_seen core n entries good =
-    let low = good.seen n in
+turned_seen : {Mine : ℕ → Type 0} → (core : Core) (n : ℕ) (entries : List HistoryEntry) → IsGood Mine core → Mine n
+    → (s : ℕ) → (core.sessions s).seen ≤ ((after_turn core n entries).sessions s).seen
+turned_seen {Mine} core n entries good mine =
+    let low = good.seen n mine in
     seen_put core n (record (core.sessions n) { seen = length (core.history ++ entries) })
     (omega (arith, length-append core.history entries))
 
-step_seen : (core new : Core) (event : Event) → IsGood core → IsStep core event new → (s : ℕ)
-    → (core.sessions s).seen ≤ (new.sessions s).seen
-step_seen core new (commit n edits) good is s =
-    seen_in core _ new s is.1 (turned_seen core n (committed core n edits) good s)
-step_seen core new (refresh n) good is s = seen_in core _ new s is (turned_seen core n [] good s)
-step_seen core new (learn n clause source closing) good is s =
+pub step_seen : {Mine : ℕ → Type 0} → (core new : Core) (event : Event) → IsGood Mine core
+    → Mine (session_of_event event) → IsStep core event new → (s : ℕ) → (core.sessions s).seen ≤ (new.sessions s).seen
+step_seen {Mine} core new (commit n edits) good mine is s =
+    seen_in core _ new s is.1 (turned_seen core n (committed core n edits) good mine s)
+step_seen {Mine} core new (refresh n) good mine is s = seen_in core _ new s is (turned_seen core n [] good mine s)
+step_seen {Mine} core new (learn n clause source closing) good mine is s =
     seen_in core _ new s is.2 (seen_put core n (record (core.sessions n) { log = is.0 }) (omega arith) s)
-step_seen core new (side n set literals) good is s =
+step_seen {Mine} core new (side n set literals) good mine is s =
     seen_in core _ new s is.2 (seen_put core n (record (core.sessions n) { log = is.0 }) (omega arith) s)
-step_seen core new (share n k i) good is s =
+step_seen {Mine} core new (share n k i) good mine is s =
     seen_in core _ new s is.is (seen_put core n (record (core.sessions n) { shared = k ∷ (core.sessions n).shared })
     (omega arith) s)
-step_seen core new (take_in n i) good is s =
+step_seen {Mine} core new (take_in n i) good mine is s =
     seen_in core _ new s is.is (seen_put core n (record (core.sessions n) { log = is.log }) (omega arith) s)
-step_seen core new (answer n asked most budget pending ending) good is s =
+step_seen {Mine} core new (answer n asked most budget pending ending) good mine is s =
     seen_in core _ new s is.is
     (seen_put core n (record (core.sessions n) { answered = length (core.sessions n).log.steps }) (omega arith) s)
 
--- ---- runs
+-- a session that an event isn't of stays as it was
+put_other : (core : Core) (n : ℕ) (session : CoreSession) (s : ℕ) → s ≢ n
+    → put_at n session core.sessions s ≡ core.sessions s
+put_other core n session s other =
+    cond_both (s == n) session (core.sessions s) (λ x. x ≡ core.sessions s)
+    (λ is. absurd (other (eqb-true s n is))) (λ no. refl)
 
-runs_good : (core new : Core) (events : List Event) (taken : List HistoryEntry) → Runs core events taken new → IsGood
-    core
-    → IsGood new
+stays_in : (core old new : Core) (s : ℕ) → new ≡ old → old.sessions s ≡ core.sessions s
+    → new.sessions s ≡ core.sessions s
+stays_in core old new s is same = ap (λ (c : Core). c.sessions s) is ∙ same
+
+pub step_others : (core new : Core) (event : Event) → IsStep core event new → (s : ℕ) → s ≢ session_of_event event
+    → new.sessions s ≡ core.sessions s
+step_others core new (commit n edits) is s other = stays_in core _ new s is.1 (put_other core n _ s other)
+step_others core new (refresh n) is s other = stays_in core _ new s is (put_other core n _ s other)
+step_others core new (learn n clause source closing) is s other =
+    stays_in core _ new s is.2 (put_other core n _ s other)
+step_others core new (side n set literals) is s other = stays_in core _ new s is.2 (put_other core n _ s other)
+step_others core new (share n k i) is s other = stays_in core _ new s is.is (put_other core n _ s other)
+step_others core new (take_in n i) is s other = stays_in core _ new s is.is (put_other core n _ s other)
+step_others core new (answer n asked most budget pending ending) is s other =
+    stays_in core _ new s is.is (put_other core n _ s other)
+
+-- ---- answers
+
+-- an answer is right on what its session has seen, and its certificate is accepted
+pub answer_right : {Mine : ℕ → Type 0} → (core new : Core) (s : ℕ) (asked : Asked) (most budget : ℕ)
+    (pending : Option Pending) (given : Answer) (sets : List (List ℕ)) → IsGood Mine core
+    → IsStep core (answer s asked most budget pending (definite given sets)) new
+    → IsRight (seen_framework core s) asked given × HasAccepted (seen_framework core s) asked given sets
+answer_right core new s asked most budget pending given sets good step =
+    let f = seen_framework core s in
+    let log = (core.sessions s).log in
+    let edits = edits_of (take (core.sessions s).seen core.history) in
+    let numbered : IsNumbered f = edits_keep core.opening edits good.numbered in
+    let form : IsLog f log = same_log core.opening f log (sym (kind_stays core.opening edits)) (good.form s) in
+    let shown = step.ends.2 in (
+      shown_answer_right f asked given sets log numbered form shown,
+      shown_is_accepted f asked given sets log form (good.guards s) shown,
+    )
+
+-- ---- runs over one framework, of which every session is one
+
+abbrev Any : ℕ → Type 0
+Any s = Unit {0}
+
+runs_good : (core new : Core) (events : List Event) (taken : List HistoryEntry) → Runs core events taken new
+    → IsGood Any core
+    → IsGood Any new
 runs_good core new events taken (rests _) good = good
 runs_good core new events taken (goes _ mid _ event more later step runs) good =
     runs_good mid new more later runs (step_good core mid event good step)
@@ -354,17 +405,17 @@ runs_history core new events taken (goes _ mid _ event more later step runs) =
       then.1 ∙ (ap (λ history. history ++ later) first.1 ∙ append_assoc core.history (taken_by core event) later),
     )
 
-runs_seen : (core new : Core) (events : List Event) (taken : List HistoryEntry) → Runs core events taken new → IsGood
-    core
+runs_seen : (core new : Core) (events : List Event) (taken : List HistoryEntry) → Runs core events taken new
+    → IsGood Any core
     → (s : ℕ) → (core.sessions s).seen ≤ (new.sessions s).seen
 runs_seen core new events taken (rests _) good s = omega arith
 runs_seen core new events taken (goes _ mid _ event more later step runs) good s =
-    let first = step_seen core mid event good step s in
+    let first = step_seen core mid event good tt step s in
     let then = runs_seen mid new more later runs (step_good core mid event good step) s in
     omega arith
 
 run_good : (start core : Core) (events : List Event) (taken : List HistoryEntry) → IsRun start events taken core →
-    IsGood core
+    IsGood Any core
 run_good start core events taken run =
     runs_good start core events taken run.runs (opened_good start run.opened run.numbered)
 
@@ -384,7 +435,7 @@ pub sees_more : (start core new : Core) (before events : List Event) (earlier ta
     → ((core.sessions s).seen ≤ (new.sessions s).seen) × ((new.sessions s).seen ≤ length new.history)
 sees_more start core new before events earlier taken run runs s =
     let good = run_good start core before earlier run in
-    (runs_seen core new events taken runs good s, (runs_good core new events taken runs good).seen s)
+    (runs_seen core new events taken runs good s, (runs_good core new events taken runs good).seen s tt)
 
 pub logs_true : (start core : Core) (events : List Event) (taken : List HistoryEntry) → IsRun start events taken core
     → (s number : ℕ) → IsNumberOf (core.sessions s).log.steps number → IsTrueOfWorlds (core.sessions s).log number
@@ -401,13 +452,4 @@ pub answers_right : (start core new : Core) (events : List Event) (taken : List 
     → IsStep core (answer s asked most budget pending (definite given sets)) new
     → IsRight (seen_framework core s) asked given × HasAccepted (seen_framework core s) asked given sets
 answers_right start core new events taken run s asked most budget pending given sets step =
-    let good = run_good start core events taken run in
-    let f = seen_framework core s in
-    let log = (core.sessions s).log in
-    let edits = edits_of (take (core.sessions s).seen core.history) in
-    let numbered : IsNumbered f = edits_keep core.opening edits good.numbered in
-    let form : IsLog f log = same_log core.opening f log (sym (kind_stays core.opening edits)) (good.form s) in
-    let shown = step.ends.2 in (
-      shown_answer_right f asked given sets log numbered form shown,
-      shown_is_accepted f asked given sets log form (good.guards s) shown,
-    )
+    answer_right core new s asked most budget pending given sets (run_good start core events taken run) step

@@ -1,1 +1,2 @@
 mod EffectLemmas
+mod MachineLemmas

@@ -4,7 +4,7 @@ use core_events::{Event, Machine, Origin, StepStop};
 use dung_notions::AfPlain;
 use edit_rules::{Edit, Framework};
 use lists::{Items, Memory};
-use meaning_atoms::{Atom, AtomLit};
+use meaning_atoms::{AfAxiom, Atom, AtomLit, AxiomName, list, no, yes};
 use plain_lits::StepId;
 use std::alloc::Global;
 use std::test::Fail;
@@ -25,10 +25,41 @@ fn learns_live(alloc: Global, number: u32) -> Result<Event, Memory> {
     })
 }
 
-/// The machine for 1 and 2, which attack each other, and 3, which 2 attacks.
+/// A machine over two frameworks: session 1 is on the first, session 2 on the second.
+fn over(alloc: Global, first: AfPlain, second: AfPlain) -> Result<Machine, Memory> {
+    let frameworks = vec![in alloc; Framework::Af(first), Framework::Af(second)]?;
+    Machine::open(alloc, Items::from_vec(frameworks), &[1, 2], 10, 100)
+}
+
+/// The machine for 1 and 2, which attack each other, and 3, which 2 attacks; and for 1, which 2 attacks.
 fn opened(alloc: Global) -> Option<Machine> {
-    let plain = AfPlain::of_lists(alloc, &[1, 2, 3], &[(1, 2), (2, 1), (2, 3)]).ok()?;
-    Machine::open(alloc, Framework::Af(plain), 10, 100).ok()
+    let first = AfPlain::of_lists(alloc, &[1, 2, 3], &[(1, 2), (2, 1), (2, 3)]).ok()?;
+    let second = AfPlain::of_lists(alloc, &[1, 2], &[(2, 1)]).ok()?;
+    over(alloc, first, second).ok()
+}
+
+/// A session learns that a member is in the range, for the argument 3.
+fn learns_range(alloc: Global, session: u32) -> Result<Event, Memory> {
+    Ok(Event::Learn {
+        session,
+        clause: list(alloc, [no(Atom::Member(3)), yes(Atom::Range(3))])?,
+        origin: Origin::Axiom(AxiomName::Af(AfAxiom::A12(3))),
+        closing: false,
+    })
+}
+
+/// Session 1 hands its first step to the pool.
+fn shares_first() -> Event {
+    Event::Share {
+        session: 1,
+        step: StepId::new(1),
+        index: 0,
+    }
+}
+
+/// A session takes what the pool has first.
+fn takes_first(session: u32) -> Event {
+    Event::Import { session, index: 0 }
 }
 
 /// What comes of an event on a machine that is just opened.
@@ -51,5 +82,31 @@ fn takes_steps_alone(rt: HostRuntime) -> Result<(), Fail> {
         comes(alloc, &Event::Commit(1, Items::new(alloc))) == Some(Err(StepStop::NotAStep))
     );
     assert!(rt; comes(alloc, &learns) == Some(Err(StepStop::NotAStep)));
+    Ok(())
+}
+
+/// A clause that session 1 learned and shared on the first framework is taken in by session 2 on the second, which has
+/// no argument 3 and where session 2 couldn't learn it.
+#[test]
+fn shares_over_frameworks(rt: HostRuntime) -> Result<(), Fail> {
+    let alloc = rt.alloc();
+    assert!(rt; comes(alloc, &learns_range(alloc, 2)?) == Some(Err(StepStop::NotAStep)));
+    let Some(mut machine) = opened(alloc) else {
+        return Ok(());
+    };
+    assert!(rt; machine.step(alloc, &takes_first(2)) == Err(StepStop::NotAStep));
+    assert!(rt; machine.step(alloc, &learns_range(alloc, 1)?) == Ok(()));
+    assert!(rt; machine.step(alloc, &shares_first()) == Ok(()));
+    assert!(rt; machine.step(alloc, &takes_first(2)) == Ok(()));
+    Ok(())
+}
+
+/// A session that is on no framework has no step.
+#[test]
+fn refuses_sessions_without_framework(rt: HostRuntime) -> Result<(), Fail> {
+    let alloc = rt.alloc();
+    assert!(rt; comes(alloc, &Event::Refresh(0)) == Some(Err(StepStop::NotAStep)));
+    assert!(rt; comes(alloc, &Event::Refresh(2)) == Some(Ok(())));
+    assert!(rt; comes(alloc, &Event::Refresh(3)) == Some(Err(StepStop::NotAStep)));
     Ok(())
 }
