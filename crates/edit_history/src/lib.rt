@@ -8,8 +8,10 @@ pub mod entry;
 pub mod fault;
 pub mod hub;
 pub mod journal;
+pub mod server;
 
 pub use entry::{Change, HistoryEntry};
 pub use fault::CommitFault;
 pub use hub::{Committed, Fresh, GroupCommitted, History, Hub, Seat};
 pub use journal::Journal;
+pub use server::{Server, ServerRefused};
